@@ -73,7 +73,10 @@ unsealed xs = after-verifying (verified (take (length xs - 2) xs) (drop (length 
 abbrev pub opened : List ℕ → Result Asked Fault
 opened xs = cond (ltb (length xs) 8) (Err TooShort) (unsealed xs)
 
--- what the code's answer says
+-- what a request of the code asks
+abbrev pub asking : Request → Asked
+asking r = record { address = r .address; named = r .station; command = r .command; content = r .content .now }
+
 abbrev pub asked-of : Result Request Fault → Result Asked Fault
-asked-of (Ok r) = Ok (record { address = r .address; named = r .station; command = r .command; content = r .content .now })
+asked-of (Ok r) = Ok (asking r)
 asked-of (Err e) = Err e

@@ -1,0 +1,70 @@
+-- What a station answers to a request, and how that leaves the buffer.
+use mathlib.Core.List.{List, [], _∷_}
+use Prim.Native.Nat.{ℕ}
+use lib.ListN.{length}
+use Rattle.std.specs.declared.option.Option.{Option}
+use Rattle.std.specs.declared.option.Option.the-variants.{Some, None}
+use Rattle.std.specs.declared.result.Result.{Result}
+use Rattle.std.specs.declared.result.Result.the-variants.{Ok, Err}
+use Rattle.frame.specs.declared.answer.NoRoom.{NoRoom}
+use Rattle.frame.specs.Requests.{Asked}
+use Rattle.frame.specs.Answers.{counted, fronted}
+use Rattle.memory.specs.declared.MemoryRefusal.{MemoryRefusal}
+use Rattle.command.specs.declared.fault.Fault.{Fault}
+use Rattle.command.specs.declared.known.Command.{Command}
+use Rattle.command.specs.declared.respond.Composed.{Composed}
+use Rattle.command.specs.declared.respond.Reply.{Reply}
+use Rattle.command.specs.declared.respond.Unanswered.{Unanswered}
+use Rattle.command.specs.declared.respond.Unanswered.the-variants.{NoPage, NoRoom as no-room}
+use Rattle.command.specs.Commands.{command-of, answer-code, abnormal-code}
+use Rattle.command.specs.Gathered.{gathered}
+use Rattle.command.specs.Readings.{then, content-for}
+
+-- what stands in an answer beside the station's number: the command octets and the data
+pub record Saying : Type 0 where
+  pub code : List ℕ
+  pub content : List ℕ
+
+abbrev pub saying : List ℕ → List ℕ → Saying
+saying code content = record { code = code; content = content }
+
+-- the normal answer to a request on a page, or the fault of the abnormal one
+abbrev pub replied : Asked → List ℕ → Result Saying Fault
+replied a page =
+    then (command-of (a .command)) (λ c.
+    then (content-for c (a .content) page) (λ content. Ok (saying (answer-code c) content)))
+
+-- what is said: the abnormal answer has command FF and no data
+abbrev pub said : Result Saying Fault → Saying
+said (Ok s) = s
+said (Err f) = saying abnormal-code []
+
+abbrev pub fault-in : Result Saying Fault → Option Fault
+fault-in (Ok s) = None
+fault-in (Err f) = Some f
+
+-- the length of the answer and its fault, or that there is no room
+abbrev pub told-with : Option Fault → Result ℕ NoRoom → Result Reply Unanswered
+told-with f (Ok n) = Ok (record { length = n; fault = f })
+told-with f (Err e) = Err no-room
+
+abbrev pub told : ℕ → Result Saying Fault → Result Reply Unanswered
+told room r = told-with (fault-in r) (counted room (said r .content))
+
+-- what the station with a page tells of a request, in a buffer of so many octets
+abbrev pub responded : Asked → Result (List ℕ) MemoryRefusal → ℕ → Result Reply Unanswered
+responded a (Ok page) room = told room (replied a page)
+responded a (Err e) room = Err NoPage
+
+abbrev pub written : Asked → Saying → List ℕ → List ℕ
+written a s buffer = fronted (a .address) (s .code) (s .content) buffer
+
+-- the buffer: the answer at its front, all else as it was
+abbrev pub answer-left : Asked → Result (List ℕ) MemoryRefusal → List ℕ → List ℕ
+answer-left a (Ok page) buffer = written a (said (replied a page)) buffer
+answer-left a (Err e) buffer = buffer
+
+-- what the code composes
+abbrev pub composed-of : Result Composed Fault → Result Saying Fault
+composed-of (Ok x) = Ok (saying (x .code) (gathered (x .content)))
+composed-of (Err e) = Err e

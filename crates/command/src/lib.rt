@@ -1,0 +1,16 @@
+// One station: its settings, its clock and present values, its records, and the commands that it answers.
+// It knows nothing of the line and of other stations.
+mod compose;
+mod content;
+pub mod event;
+pub mod event_kind;
+pub mod fault;
+mod gather;
+pub mod half_hour;
+pub mod known;
+mod point;
+mod points;
+pub mod respond;
+pub mod setting;
+pub mod settings;
+pub mod station;

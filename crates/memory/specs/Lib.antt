@@ -1,0 +1,4 @@
+pub mod Model
+pub mod Grid
+pub mod Working
+pub mod Paging
