@@ -1,0 +1,4 @@
+pub mod Shares
+pub mod Refusals
+pub mod Lines
+pub mod Enrolling
