@@ -1,2 +1,3 @@
 pub mod Roll
 pub mod Tables
+pub mod Serving

@@ -11,7 +11,7 @@ use Rattle.std.proofs.shelf.Tests.{cond-true, cond-false, eq-eqb, ne-eqb}
 use Rattle.std.specs.declared.result.Result.the-variants.{Ok, Err}
 use Rattle.frame.specs.declared.station_number.StationNumber.{StationNumber}
 use Rattle.line.specs.declared.refusal.Refusal.the-variants.{WrongStationNumber, RepeatedNumber}
-use Rattle.line.specs.Enrolling.{Asked, numbered, numbers-asked, has, different-asked}
+use Rattle.line.specs.Enrolling.{numbered, numbers-asked, has, different-asked}
 
 -- what is left of a list after a place, as it is lent
 pub lent-rest : {X : Type 0} (i : ℕ) (xs : List X) → take (length xs - i) (drop i xs) ≡ drop i xs

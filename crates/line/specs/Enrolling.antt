@@ -16,30 +16,30 @@ use Rattle.line.specs.declared.refusal.Refusal.the-variants.{NotNew, WrongStat
 use Rattle.line.specs.Lines.{LineView}
 
 -- a question's answer
-abbrev pub Asked : Type 0
-Asked = Result (Unit {0}) Refusal
+abbrev pub Verdict : Type 0
+Verdict = Result (Unit {0}) Refusal
 
-abbrev pub unless : Bool → Refusal → Asked
+abbrev pub unless : Bool → Refusal → Verdict
 unless b e = cond b (Err e) (Ok tt)
 
 -- questions are put in turn: the next one where the first is passed
-abbrev pub next : Asked → Asked → Asked
+abbrev pub next : Verdict → Verdict → Verdict
 next (Ok u) q = q
 next (Err e) q = Err e
 
 -- 1: the line is new
-abbrev pub new-asked : LineView → Asked
+abbrev pub new-asked : LineView → Verdict
 new-asked l = unless (ltb 0 (length (l .stations))) NotNew
 
 -- 2: there are 1 to 32 numbers
-abbrev pub count-asked : ℕ → Asked
+abbrev pub count-asked : ℕ → Verdict
 count-asked n = unless (eqb n 0 || ltb 32 n) WrongStationCount
 
 -- 3: each is 1 to 4,095
 abbrev pub numbered : ℕ → Bool
 numbered n = ltb 0 n && ltb n 4096
 
-abbrev pub numbers-asked : List StationNumber → Asked
+abbrev pub numbers-asked : List StationNumber → Verdict
 numbers-asked [] = Ok tt
 numbers-asked (n ∷ ns) = cond (numbered (n .value)) (numbers-asked ns) (Err WrongStationNumber)
 
@@ -48,22 +48,22 @@ abbrev pub has : ℕ → List StationNumber → Bool
 has v [] = false
 has v (n ∷ ns) = cond (eqb (n .value) v) true (has v ns)
 
-abbrev pub different-asked : List StationNumber → Asked
+abbrev pub different-asked : List StationNumber → Verdict
 different-asked [] = Ok tt
 different-asked (n ∷ ns) = cond (has (n .value) ns) (Err RepeatedNumber) (different-asked ns)
 
 -- 5: the memory has a page for each
-abbrev pub pages-asked : ℕ → ℕ → Asked
+abbrev pub pages-asked : ℕ → ℕ → Verdict
 pages-asked n pages = unless (ltb pages n) TooFewPages
 
 -- 6 and 7: a book's length is the count of stations × the share, and the share is within bounds
 abbrev pub fits : ℕ → ℕ → ℕ → ℕ → ℕ → Bool
 fits least most n places share = leb least share && (leb share most && eqb places (n * share))
 
-abbrev pub event-book-asked : ℕ → ℕ → ℕ → Asked
+abbrev pub event-book-asked : ℕ → ℕ → ℕ → Verdict
 event-book-asked n places share = cond (fits 2 5000 n places share) (Ok tt) (Err WrongEventBook)
 
-abbrev pub half-hour-book-asked : ℕ → ℕ → ℕ → Asked
+abbrev pub half-hour-book-asked : ℕ → ℕ → ℕ → Verdict
 half-hour-book-asked n places share = cond (fits 1 3000 n places share) (Ok tt) (Err WrongHalfHourBook)
 
 -- a book as it is lent: how many places, and how many of them for each station
@@ -75,7 +75,7 @@ abbrev pub book : ℕ → ℕ → Book
 book p c = record { places = p; share = c }
 
 -- the questions of enrolling, in their order
-abbrev pub enrolling-asked : LineView → List StationNumber → ℕ → Book → Book → Asked
+abbrev pub enrolling-asked : LineView → List StationNumber → ℕ → Book → Book → Verdict
 enrolling-asked l ns pages events half-hours =
     next (new-asked l)
     (next (count-asked (length ns))
@@ -98,7 +98,7 @@ abbrev pub initial-pages : ℕ → List (List ℕ) → List (List ℕ)
 initial-pages n ps = map (λ _. initial-page) (take n ps) ++ drop n ps
 
 -- what follows the questions: a refusal leaves things as they were
-abbrev pub after : {X : Type 0} → Asked → X → X → X
+abbrev pub after : {X : Type 0} → Verdict → X → X → X
 after (Ok u) old new = new
 after (Err e) old new = old
 

@@ -177,7 +177,7 @@ impl Line {
     fn new_asked(&self) -> Result<(), Refusal>
         ensures { λ r. ⌜ r ≡ new-asked (line-view (now (self .entry))) ⌝ }
     {
-        if self.count > 0 {
+        if self.station_count() > 0 {
             return Err(Refusal::NotNew);
         }
         Ok(())

@@ -1,0 +1,125 @@
+-- What receiving one signal tells, and how it leaves the line and the answer buffer.
+use mathlib.Core.Bool.{cond, _&&_}
+use mathlib.Core.List.{List, [], _∷_, _++_}
+use Prim.Native.Nat.{ℕ, _+_, _*_}
+use lib.Dec.{eqb, ltb}
+use lib.ListN.{length, getD, drop}
+use Rattle.std.specs.declared.option.Option.{Option}
+use Rattle.std.specs.declared.option.Option.the-variants.{Some, None}
+use Rattle.std.specs.declared.result.Result.{Result}
+use Rattle.std.specs.declared.result.Result.the-variants.{Ok, Err}
+use Rattle.frame.specs.declared.fault.Fault.{Fault}
+use Rattle.frame.specs.declared.fault.Fault.the-variants.{UnknownStation}
+use Rattle.frame.specs.declared.signal.Signal.{Signal}
+use Rattle.frame.specs.declared.station_number.StationNumber.{StationNumber}
+use Rattle.frame.specs.Reception.{Link, Told, Step, step}
+use Rattle.frame.specs.Requests.{Asked, opened}
+use Rattle.frame.specs.Answers.{answer-of}
+use Rattle.command.specs.declared.fault.Fault.{Fault as CommandFault}
+use Rattle.command.specs.declared.respond.Reply.{Reply}
+use Rattle.command.specs.Stations.{StationView}
+use Rattle.command.specs.Replies.{Saying, said, fault-in, replied}
+use Rattle.line.specs.declared.reception.Reception.{Reception}
+use Rattle.line.specs.declared.reception.Reception.the-variants.{Nothing, Dropped, Answered}
+use Rattle.line.specs.declared.refusal.Refusal.{Refusal}
+use Rattle.line.specs.declared.refusal.Refusal.the-variants.{NotEnrolled, PagesMissing, WrongBookLength, ShortAnswerBuffer}
+use Rattle.line.specs.Lines.{LineView}
+use Rattle.line.specs.Enrolling.{Verdict, unless, next, after}
+
+-- 10: the line is enrolled
+abbrev pub enrolled-asked : LineView → Verdict
+enrolled-asked l = unless (eqb (length (l .stations)) 0) NotEnrolled
+
+-- 11: the memory has a page for each station
+abbrev pub pages-present-asked : LineView → ℕ → Verdict
+pages-present-asked l pages = unless (ltb pages (length (l .stations))) PagesMissing
+
+-- 12: both books have their enrolled length
+abbrev pub books-asked : LineView → ℕ → ℕ → Verdict
+books-asked l events half-hours =
+    cond (eqb events (length (l .stations) * l .event-share) && eqb half-hours (length (l .stations) * l .half-hour-share))
+    (Ok tt) (Err WrongBookLength)
+
+-- 13: the answer buffer has at least 567 octets
+abbrev pub room-asked : ℕ → Verdict
+room-asked room = unless (ltb room 567) ShortAnswerBuffer
+
+-- the questions of receiving, in their order
+abbrev pub receiving-asked : LineView → ℕ → ℕ → ℕ → ℕ → Verdict
+receiving-asked l pages events half-hours room =
+    next (enrolled-asked l) (next (pages-present-asked l pages) (next (books-asked l events half-hours) (room-asked room)))
+
+-- the first place of a station's number, counted from k
+abbrev pub place-from : ℕ → ℕ → List StationView → Option ℕ
+place-from k n [] = None
+place-from k n (s ∷ ss) = cond (eqb (s .number) n) (Some k) (place-from (k + 1) n ss)
+
+abbrev pub known : Option ℕ → Result ℕ Fault
+known (Some k) = Ok k
+known None = Err UnknownStation
+
+-- 25: the place of the station that an address names; an address that is no number names none
+abbrev pub place-of : Option StationNumber → List StationView → Result ℕ Fault
+place-of (Some n) ss = known (place-from 0 (n .value) ss)
+place-of None ss = Err UnknownStation
+
+-- what is told of a frame, and how the buffer is left
+pub record Outcome : Type 0 where
+  pub told : Result (Option Reply) Fault
+  pub answer : List ℕ
+
+abbrev pub outcome : Result (Option Reply) Fault → List ℕ → Outcome
+outcome t buffer = record { told = t; answer = buffer }
+
+-- the octets of an answer
+abbrev pub octets-of : Asked → Saying → List ℕ
+octets-of a s = answer-of (a .address) (s .code) (s .content)
+
+-- an answer is told by its length and its fault, and stands at the front of the buffer; all else of the buffer stays
+abbrev pub spoken : List ℕ → Result Saying CommandFault → List ℕ → Outcome
+spoken octets r buffer = outcome (Ok (Some (record { length = length octets; fault = fault-in r }))) (octets ++ drop (length octets) buffer)
+
+-- the station at a place answers from its page
+abbrev pub served : Asked → List (List ℕ) → List ℕ → Result ℕ Fault → Outcome
+served a pages buffer (Ok k) = spoken (octets-of a (said (replied a (getD pages k [])))) (replied a (getD pages k [])) buffer
+served a pages buffer (Err e) = outcome (Err e) buffer
+
+-- a frame that was taken apart
+abbrev pub dispatched : List StationView → List (List ℕ) → List ℕ → Result Asked Fault → Outcome
+dispatched ss pages buffer (Ok a) = served a pages buffer (place-of (a .named) ss)
+dispatched ss pages buffer (Err e) = outcome (Err e) buffer
+
+-- what reception told: nothing yet, a whole frame, or a fault
+abbrev pub followed : List StationView → List (List ℕ) → List ℕ → Told → Outcome
+followed ss pages buffer (Ok None) = outcome (Ok None) buffer
+followed ss pages buffer (Ok (Some xs)) = dispatched ss pages buffer (opened xs)
+followed ss pages buffer (Err e) = outcome (Err e) buffer
+
+abbrev pub reception-of : Result (Option Reply) Fault → Reception
+reception-of (Ok None) = Nothing
+reception-of (Ok (Some r)) = Answered (r .length) (r .fault)
+reception-of (Err e) = Dropped e
+
+-- what an admitted signal comes to
+abbrev pub heard : LineView → Signal → List (List ℕ) → List ℕ → Outcome
+heard l s pages buffer = followed (l .stations) pages buffer (step (l .link) s .told)
+
+abbrev pub with-link : LineView → Link → LineView
+with-link l k = record { link = k; stations = l .stations; event-share = l .event-share; half-hour-share = l .half-hour-share }
+
+-- what receiving tells: a refusal, or what the signal comes to
+abbrev pub told-after : Verdict → Reception → Result Reception Refusal
+told-after (Ok u) r = Ok r
+told-after (Err e) r = Err e
+
+abbrev pub reception-after : LineView → Signal → List (List ℕ) → ℕ → ℕ → List ℕ → Result Reception Refusal
+reception-after l s pages events half-hours buffer =
+    told-after (receiving-asked l (length pages) events half-hours (length buffer)) (reception-of (heard l s pages buffer .told))
+
+abbrev pub line-after : LineView → Signal → List (List ℕ) → ℕ → ℕ → List ℕ → LineView
+line-after l s pages events half-hours buffer =
+    after (receiving-asked l (length pages) events half-hours (length buffer)) l (with-link l (step (l .link) s .next))
+
+abbrev pub answer-after : LineView → Signal → List (List ℕ) → ℕ → ℕ → List ℕ → List ℕ
+answer-after l s pages events half-hours buffer =
+    after (receiving-asked l (length pages) events half-hours (length buffer)) buffer (heard l s pages buffer .answer)
