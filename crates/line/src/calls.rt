@@ -125,7 +125,12 @@ impl Line {
         ensures events { λ _. ⌜ now (events .exit) ≡ now (events .entry) ⌝ }
         ensures half_hours { λ _. ⌜ now («half_hours» .exit) ≡ now («half_hours» .entry) ⌝ }
     {
-        self.receiving_asked(memory.page_count(), events.len(), half_hours.len(), answer.len())?;
+        self.receiving_asked(
+            memory.page_count(),
+            events.len(),
+            half_hours.len(),
+            answer.len(),
+        )?;
         Ok(self.hear(signal, memory, answer))
     }
 }

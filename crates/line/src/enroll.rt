@@ -26,8 +26,11 @@ const HIGHEST_NUMBER: u16 = 4095;
 
 // The least and the most places of a share.
 const LEAST_EVENTS: usize = 2;
+
 const MOST_EVENTS: usize = 5000;
+
 const LEAST_HALF_HOURS: usize = 1;
+
 const MOST_HALF_HOURS: usize = 3000;
 
 fn count_asked(count: usize) -> Result<(), Refusal>
@@ -216,7 +219,11 @@ impl Line {
     {
         *self = Line {
             receiver: Receiver::new(),
-            stations: table_of(numbers, empty_ring(event_share), empty_ring(half_hour_share)),
+            stations: table_of(
+                numbers,
+                empty_ring(event_share),
+                empty_ring(half_hour_share),
+            ),
             count: numbers.len(),
             event_share,
             half_hour_share,

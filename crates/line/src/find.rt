@@ -24,10 +24,7 @@ fn find(stations: &[Station], number: u16) -> Option<usize>
 }
 
 // The place of the station that an address names.
-pub(crate) fn place_of(
-    stations: &[Station],
-    named: Option<StationNumber>,
-) -> Result<usize, Fault>
+pub(crate) fn place_of(stations: &[Station], named: Option<StationNumber>) -> Result<usize, Fault>
     ensures place { λ r. ⌜ r ≡ place-of named (views-of (now (stations .entry))) ⌝ }
     ensures within { λ r. ⌜ made r (λ k. k < length (now (stations .entry))) ⌝ }
 {

@@ -5,5 +5,8 @@
 pub enum Reception {
     Nothing,
     Dropped(frame::fault::Fault),
-    Answered { length: usize, fault: Option<command::fault::Fault> },
+    Answered {
+        length: usize,
+        fault: Option<command::fault::Fault>,
+    },
 }

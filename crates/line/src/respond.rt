@@ -63,7 +63,10 @@ pub(crate) fn reception(told: Result<Option<Reply>, Fault>) -> Reception
 {
     match told {
         Ok(None) => Reception::Nothing,
-        Ok(Some(reply)) => Reception::Answered { length: reply.length, fault: reply.fault },
+        Ok(Some(reply)) => Reception::Answered {
+            length: reply.length,
+            fault: reply.fault,
+        },
         Err(fault) => Reception::Dropped(fault),
     }
 }

@@ -19,9 +19,9 @@ returns g c =
     record {
       link = ap (λ t. t .next) hears;
       told =
-        c .dispatch .ensures
-        ∙ ap (λ n. dispatched (views-of (take n stations)) pages buffer (opened (c .frame .result .now))) (sub-zero (c .args .count))
-        ∙ ap (λ xs. dispatched taken pages buffer (opened xs)) (c .frame .ensures)
-        ∙ ap (λ o. followed taken pages buffer (told-by (Ok o) octets)) (sym (c .in-Some .is))
-        ∙ ap (λ t. followed taken pages buffer (t .told)) hears;
+          c .dispatch .ensures
+          ∙ ap (λ n. dispatched (views-of (take n stations)) pages buffer (opened (c .frame .result .now))) (sub-zero (c .args .count))
+          ∙ ap (λ xs. dispatched taken pages buffer (opened xs)) (c .frame .ensures)
+          ∙ ap (λ o. followed taken pages buffer (told-by (Ok o) octets)) (sym (c .in-Some .is))
+          ∙ ap (λ t. followed taken pages buffer (t .told)) hears;
     }
