@@ -2,6 +2,8 @@
 mod input;
 mod line_box;
 mod options;
+#[cfg(test)]
+mod tests;
 
 use crate::input::Input;
 use crate::line_box::LineBox;
