@@ -1,0 +1,4 @@
+pub mod Moments
+pub mod Century
+pub mod Octets
+pub mod Halves

@@ -1,7 +1,8 @@
 -- A date and time as plain numbers, whether or not it exists.
-use mathlib.Core.Bool.{Bool, cond, _&&_}
+use mathlib.Core.Path.{_≡_}
+use mathlib.Core.Bool.{Bool, true, cond, _&&_}
 use Prim.Native.Nat.{ℕ}
-use lib.Dec.{leb, ltb}
+use lib.Dec.{eqb, leb, ltb}
 use Rattle.std.specs.declared.option.Option.{Option}
 use Rattle.std.specs.declared.option.Option.the-variants.{Some, None}
 use Rattle.calendar.specs.Calendar.{days-of-month}
@@ -37,6 +38,18 @@ is-time hour minute second = ltb hour 24 && (ltb minute 60 && ltb second 60)
 unfoldable pub exists : Moment → Bool
 exists m = is-date (m .year) (m .month) (m .day) && is-time (m .hour) (m .minute) (m .second)
 
+-- the type has only times that exist
+abbrev pub Every-time-exists : Type 0
+Every-time-exists = (t : DateTime) → exists (moment-of t) ≡ true
+
 -- a moment, if it exists
 abbrev pub existing : Moment → Option Moment
 existing m = cond (exists m) (Some m) None
+
+-- whether two moments are the same
+unfoldable pub same-moment : Moment → Moment → Bool
+same-moment m n =
+    eqb (m .year) (n .year)
+    && (eqb (m .month) (n .month)
+    && (eqb (m .day) (n .day)
+    && (eqb (m .hour) (n .hour) && (eqb (m .minute) (n .minute) && eqb (m .second) (n .second)))))

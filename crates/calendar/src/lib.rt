@@ -1,3 +1,8 @@
 // Dates and times of the years 2000 to 2099.
+mod comparing;
 pub mod date_time;
+mod digits;
+mod half_hours;
 mod making;
+mod stepping;
+pub mod time_fault;

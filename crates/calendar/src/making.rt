@@ -1,11 +1,9 @@
 // How a date and time is made: only where it exists.
 ghost use mathlib.Core.Path.{_≡_};
 ghost use Rattle.std.specs.Options.{mapped};
-ghost use Rattle.std.specs.Orderings.{Decides};
 ghost use Rattle.calendar.specs.Calendar.{days-of-month};
 ghost use Rattle.calendar.specs.Moment.{moment, moment-of, first, is-date, is-time, existing};
 use crate::date_time::DateTime;
-use crate::date_time::DateTimePartialEq;
 
 pub(crate) fn days_of_month(year: u8, month: u8) -> u8
     ensures { λ r. ⌜ r ≡ days-of-month year month ⌝ }
@@ -60,11 +58,5 @@ impl DateTime {
             minute: 0,
             second: 0,
         }
-    }
-
-    pub fn same(self, other: DateTime) -> bool
-        ensures { λ r. ⌜ Decides r (moment-of self ≡ moment-of other) ⌝ }
-    {
-        self == other
     }
 }

@@ -1,3 +1,5 @@
 pub mod Grids
 pub mod ByPage
+pub mod ByCell
 pub mod Steps
+pub mod Joins

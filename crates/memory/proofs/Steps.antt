@@ -1,4 +1,4 @@
--- What storing comes to where it does not refuse, and one step of storing and of reading a whole page.
+-- What a memory's pages are known to be, what storing comes to, and the steps of reading and of storing a whole page.
 use mathlib.Core.Path.{_≡_, sym, ap, _∙_}
 use mathlib.Core.Logic.{inl, inr}
 use mathlib.Core.List.{List, [], _∷_, _++_}
@@ -8,11 +8,11 @@ use lib.ListN.{length, getD, set, take, drop, length-set}
 use Rattle.std.proofs.shelf.Lists.{append-assoc, append-nil, length-take-le, getD-set-same, set-set, set-at, set-past, take-more, take-more-set, drop-more, take-all, drop-all}
 use Rattle.std.proofs.shelf.Elements.{all-getD}
 use Rattle.std.proofs.shelf.Tests.{lt-ltb, le-ltb, cases-lt}
-use Rattle.memory.specs.Model.{Page, Paged, fetched, stored, restored}
-use Rattle.memory.specs.declared.MemoryRefusal.{MemoryRefusal}
-use Rattle.memory.specs.declared.MemoryRefusal.the-variants.{NoPage}
 use Rattle.std.specs.declared.result.Result.{Result}
 use Rattle.std.specs.declared.result.Result.the-variants.{Ok, Err}
+use Rattle.memory.specs.declared.MemoryRefusal.{MemoryRefusal}
+use Rattle.memory.specs.declared.MemoryRefusal.the-variants.{NoPage}
+use Rattle.memory.specs.Model.{Page, Paged, fetched, stored, restored}
 
 -- a page of a memory has 28 cells
 pub full : (ps : List (List ℕ)) (p : ℕ) → Paged ps → p < length ps → length (getD ps p []) ≡ 28
@@ -60,6 +60,10 @@ restore-more ps p i xs paged k e = elim (cases-lt p (length ps)) [
       ∙ set-past ps p _ h ∙ sym (set-past ps p _ h)
 ]
 
+pub restore-step : (after during ps : List (List ℕ)) (p i : ℕ) (xs : List ℕ) → Paged ps → i < 28 → length xs ≡ 28
+    → after ≡ stored during p i (getD xs i 0) → during ≡ set ps p (mixed xs (getD ps p []) i) → after ≡ set ps p (mixed xs (getD ps p []) (i + 1))
+restore-step after during ps p i xs paged k e f inv = f ∙ ap (λ qs. stored qs p i (getD xs i 0)) inv ∙ restore-more ps p i xs paged k e
+
 pub restore-all : (ps : List (List ℕ)) (p i : ℕ) (xs : List ℕ) → Paged ps → 28 ≤ i → length xs ≡ 28 → set ps p (mixed xs (getD ps p []) i) ≡ set ps p xs
 restore-all ps p i xs paged k e = elim (cases-lt p (length ps)) [
   | inl h ↦ let whole = full ps p paged h in ap (set ps p) (mixed-all xs (getD ps p []) i (omega arith) (omega arith))
@@ -82,6 +86,7 @@ copy-more xs ys i v h k e same =
 pub copied-all : (xs ys : List ℕ) (i : ℕ) → length xs ≤ i → length ys ≤ i → take i xs ≡ take i ys → xs ≡ ys
 copied-all xs ys i h k e = sym (take-all i xs h) ∙ e ∙ take-all i ys k
 
+-- past the end `set` changes nothing, so restoring is `set`
 pub restored-is-set : (ps : List (List ℕ)) (p : ℕ) (cells : List ℕ) → restored ps p cells ≡ set ps p cells
 restored-is-set ps p cells = elim (cases-lt p (length ps)) [
   | inl h ↦ simp (lt-ltb p (length ps) h)

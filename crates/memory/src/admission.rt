@@ -1,6 +1,6 @@
 // What the memories that lie in a slice ask before they fetch or store.
 ghost use mathlib.Core.Path.{_≡_};
-ghost use Prim.Native.Nat.{ℕ, _<_, min};
+ghost use Prim.Native.Nat.{_<_, min};
 ghost use Rattle.std.specs.Vec.{made};
 ghost use Rattle.memory.specs.Model.{admitted};
 use crate::CELLS;

@@ -6,9 +6,20 @@ ghost use lib.ListN.{length};
 ghost use Rattle.memory.specs.Model.{Paged, answered, fetched, stored};
 
 mod admission;
+mod chip;
+mod joined;
+mod none;
 mod page;
+#[cfg(test)]
+mod tests;
 mod working;
 
+pub use chip::ChipImage;
+pub use chip::ChipSettings;
+pub use joined::JoinedMemory;
+pub use joined::JoinedSettings;
+pub use none::NoMemory;
+pub use none::NoSettings;
 pub use page::load;
 pub use page::restore;
 pub use working::WorkingMemory;

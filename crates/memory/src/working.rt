@@ -1,7 +1,7 @@
 // Working memory: a lent slice of cells, page after page.
 ghost use mathlib.Core.Path.{_≡_};
 ghost use mathlib.Core.List.{[]};
-ghost use Prim.Native.Nat.{ℕ, _+_, _*_, _<_};
+ghost use Prim.Native.Nat.{_+_, _*_, _<_};
 ghost use lib.ListN.{length, getD, set};
 ghost use denote.Ref.{now, name};
 ghost use Rattle.memory.specs.Model.{answered, stored};

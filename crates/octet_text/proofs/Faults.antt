@@ -1,8 +1,8 @@
 -- Where a fault stands.
-use mathlib.Core.Path.{_≡_, refl, sym, ap, subst, _∙_}
+use mathlib.Core.Path.{_≡_, refl, ap, subst, _∙_}
 use mathlib.Core.Bool.{Bool, true, false, cond}
 use mathlib.Core.List.{List, [], _∷_, _++_}
-use Prim.Native.Nat.{ℕ, suc, _+_, _-_, _^_, _<_, _≤_, min}
+use Prim.Native.Nat.{ℕ, _+_, _-_, _^_, _<_, _≤_}
 use native.Mathlib.Omega.{arith}
 use lib.Dec.{eqb}
 use lib.ListN.{length}
@@ -10,9 +10,8 @@ use Rattle.std.specs.Vec.{listOf}
 use Rattle.std.specs.Results.{isOk}
 use Rattle.std.specs.declared.option.Option.{Option}
 use Rattle.std.specs.declared.option.Option.the-variants.{Some, None}
-use Rattle.std.specs.declared.result.Result.{Result}
 use Rattle.std.specs.declared.result.Result.the-variants.{Ok, Err}
-use Rattle.std.proofs.shelf.Lists.{append-nil, append-assoc, length-push}
+use Rattle.std.proofs.shelf.Lists.{append-assoc, length-push}
 use Rattle.std.proofs.shelf.Ways.{tells}
 use Rattle.octet_text.specs.declared.fault.TextFault.{TextFault}
 use Rattle.octet_text.specs.declared.fault.TextProblem.the-variants.{NotADigit, HalfAPair}
@@ -21,8 +20,8 @@ use Rattle.octet_text.specs.declared.hear.Turn.{Turn}
 use Rattle.octet_text.specs.declared.reader.State.{State}
 use Rattle.octet_text.specs.declared.reader.State.the-variants.{BetweenPairs, InsidePair, InComment}
 use Rattle.octet_text.specs.Positions.{newline, first-position, position-behind, fault-at, counted}
-use Rattle.octet_text.specs.Promises.{newlines, behind-last-newline, Accepted, Stands, Faults-stand-where-told}
-use Rattle.octet_text.specs.Reading.{start, reading, progress, heard, moved, and-then, read-on, concluded, read-all}
+use Rattle.octet_text.specs.Promises.{newlines, behind-last-newline, Stands, Faults-stand-where-told}
+use Rattle.octet_text.specs.Reading.{start, reading, progress, heard, moved, and-then, read-on, concluded}
 use Rattle.octet_text.proofs.Grammar.{resume}
 use Rattle.octet_text.proofs.Steps.{read-on-append}
 

@@ -10,9 +10,9 @@ use Rattle.std.specs.shelf.Lists.{All, joined}
 use Rattle.std.specs.declared.option.Option.{Option}
 use Rattle.std.specs.declared.option.Option.the-variants.{Some, None}
 use Rattle.std.specs.declared.result.Result.{Result}
-use Rattle.std.specs.declared.result.Result.the-variants.{Ok, Err}
+use Rattle.std.specs.declared.result.Result.the-variants.{Ok}
 use Rattle.std.proofs.shelf.Lists.{append-nil, append-assoc}
-use Rattle.std.proofs.shelf.Tests.{eqb-true, eqb-false, ne-eqb, cond-both}
+use Rattle.std.proofs.shelf.Tests.{eqb-true, cond-both}
 use Rattle.std.proofs.shelf.Ways.{tells}
 use Rattle.octet_text.specs.declared.fault.TextFault.{TextFault}
 use Rattle.octet_text.specs.declared.position.Position.{Position}
@@ -20,7 +20,7 @@ use Rattle.octet_text.specs.declared.hear.Turn.{Turn}
 use Rattle.octet_text.specs.declared.reader.State.{State}
 use Rattle.octet_text.specs.declared.reader.State.the-variants.{BetweenPairs, InsidePair, InComment}
 use Rattle.octet_text.specs.Digits.{digit-of, value-of, two-digits}
-use Rattle.octet_text.specs.Lines.{space, spaced, pairs-of, line-of}
+use Rattle.octet_text.specs.Lines.{spaced, pairs-of, line-of}
 use Rattle.octet_text.specs.Positions.{newline, first-position, position-behind}
 use Rattle.octet_text.specs.Promises.{newlines, Writes, nothing, white-space, pair, comment, last-comment, Octets, Reads-hexadecimal-text, Comment-lines-do-not-matter, Lines-read-back}
 use Rattle.octet_text.specs.Reading.{reading, white, comment-sign, turn, first-of-pair, second-of-pair, begun, heard, moved, and-then, read-on, concluded, read-all}

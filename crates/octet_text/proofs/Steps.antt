@@ -16,6 +16,7 @@ use Rattle.octet_text.specs.Lines.{spaced, pairs-of}
 use Rattle.octet_text.specs.Texts.{Refuses}
 use Rattle.octet_text.specs.Reading.{Reading, Progress, and-then, read-one, read-on}
 
+-- the octet at i, and those behind it
 pub spaced-more : (front longer xs : List ℕ) (i : ℕ) → i < length xs → longer ≡ front ++ spaced (getD xs i 0 ∷ []) → longer ++ spaced (drop (i + 1) xs) ≡ front ++ spaced (drop i xs)
 spaced-more front longer xs i h e =
     ap (λ begun. begun ++ spaced (drop (i + 1) xs)) e
@@ -29,21 +30,22 @@ read-on-append r octets (c ∷ cs) ys =
     elim (read-one r c) as (λ g. and-then g (λ s. read-on (s .next) (octets ++ listOf (s .octet)) (cs ++ ys)) ≡ and-then (and-then g (λ s. read-on (s .next) (octets ++ listOf (s .octet)) cs)) (λ p. read-on (p .reader) (p .octets) ys))
     [ Ok s ↦ read-on-append (s .next) (octets ++ listOf (s .octet)) cs ys | Err f ↦ refl ]
 
+-- the next character of a text, and the rest
+read-next : (r : Reading) (octets text : List ℕ) (i : ℕ) → i < length text
+    → read-on r octets (drop i text) ≡ and-then (read-on r octets (getD text i 0 ∷ [])) (λ p. read-on (p .reader) (p .octets) (drop (i + 1) text))
+read-next r octets text i h = at-drop-more (read-on r octets) text i 0 h ∙ read-on-append r octets (getD text i 0 ∷ []) (drop (i + 1) text)
+
 pub read-more : (r : Reading) (octets text : List ℕ) (i : ℕ) (p : Progress) → i < length text
     → read-on r octets (getD text i 0 ∷ []) ≡ Ok p
     → read-on r octets (drop i text) ≡ read-on (p .reader) (p .octets) (drop (i + 1) text)
 read-more r octets text i p h e =
-    at-drop-more (read-on r octets) text i 0 h
-    ∙ read-on-append r octets (getD text i 0 ∷ []) (drop (i + 1) text)
-    ∙ ap (λ g. and-then g (λ q. read-on (q .reader) (q .octets) (drop (i + 1) text))) e
+    read-next r octets text i h ∙ ap (λ g. and-then g (λ q. read-on (q .reader) (q .octets) (drop (i + 1) text))) e
 
 read-refused : (r : Reading) (octets text : List ℕ) (i : ℕ) (f : TextFault) → i < length text
     → read-on r octets (getD text i 0 ∷ []) ≡ Err f
     → read-on r octets (drop i text) ≡ Err f
 read-refused r octets text i f h e =
-    at-drop-more (read-on r octets) text i 0 h
-    ∙ read-on-append r octets (getD text i 0 ∷ []) (drop (i + 1) text)
-    ∙ ap (λ g. and-then g (λ q. read-on (q .reader) (q .octets) (drop (i + 1) text))) e
+    read-next r octets text i h ∙ ap (λ g. and-then g (λ q. read-on (q .reader) (q .octets) (drop (i + 1) text))) e
 
 -- the fault of a character is that of the text
 pub refuses-text : (e : ReadFault) (r : Reading) (octets text : List ℕ) (i : ℕ) (given : Result Progress TextFault) → i < length text

@@ -4,6 +4,7 @@ use Prim.Native.Nat.{ℕ}
 use Rattle.octet_text.specs.Digits.{two-digits}
 use Rattle.octet_text.specs.Positions.{newline}
 
+-- the character between two pairs
 abbrev pub space : ℕ
 space = 32
 
@@ -17,5 +18,6 @@ abbrev pub pairs-of : List ℕ → List ℕ
 pairs-of [] = []
 pairs-of (x ∷ xs) = two-digits x ++ spaced xs
 
+-- the line of the octets
 abbrev pub line-of : List ℕ → List ℕ
 line-of xs = pairs-of xs ++ newline ∷ []

@@ -14,6 +14,7 @@ newline = 10
 abbrev pub counted : ℕ → ℕ
 counted n = min (n + 1) (2 ^ 64 - 1)
 
+-- the place of a text's first character
 abbrev pub first-position : Position
 first-position = record { line = 1; column = 1 }
 
@@ -24,5 +25,6 @@ position-behind p c =
     (record { line = counted (p .line); column = 1 })
     (record { line = p .line; column = counted (p .column) })
 
+-- a fault at the place p
 abbrev pub fault-at : Position → TextProblem → TextFault
 fault-at p problem = record { line = p .line; column = p .column; problem = problem }

@@ -43,6 +43,7 @@ Reads-hexadecimal-text = (text octets : List ℕ) → (read-all text ≡ Ok octe
 abbrev pub Comment-lines-do-not-matter : Type 0
 Comment-lines-do-not-matter = (remark text octets : List ℕ) → newlines remark ≡ 0 → read-all text ≡ Ok octets → read-all (comment-sign ∷ (remark ++ newline ∷ text)) ≡ Ok octets
 
+-- each of the numbers is an octet
 abbrev pub Octets : List ℕ → Type 0
 Octets xs = All (λ x. x < 256) xs
 

@@ -26,6 +26,7 @@ pub record Reading : Type 0 where
 abbrev pub reading : State → Position → Reading
 reading s p = record { state = s; position = p }
 
+-- what a reader of the code holds
 abbrev pub reading-of : HexReader → Reading
 reading-of h = reading (h .state) (h .position)
 
@@ -41,6 +42,7 @@ white c = eqb c 32 || (leb 9 c && leb c 13)
 abbrev pub comment-sign : ℕ
 comment-sign = 35
 
+-- what a character does: the state behind it, and the octet of the pair that it ends
 abbrev pub turn : State → Option ℕ → Turn
 turn s octet = record { state = s; octet = octet }
 
@@ -61,13 +63,13 @@ begun c =
     (cond (eqb c comment-sign) (Some (turn InComment None))
     (first-of-pair (value-of c)))
 
--- a character in a state: the state behind it, and the octet whose second digit it is; None where it is refused
+-- a character in a state; None where it is refused
 abbrev pub heard : State → ℕ → Option Turn
 heard BetweenPairs c = begun c
 heard (InsidePair v) c = second-of-pair v (value-of c)
 heard InComment c = Some (turn (cond (eqb c newline) BetweenPairs InComment) None)
 
--- the reader behind a character, and the octet whose second digit it is
+-- what a reader holds behind a character, and the octet of the pair that this ends
 pub record Step : Type 0 where
   pub next : Reading
   pub octet : Option ℕ
@@ -75,20 +77,22 @@ pub record Step : Type 0 where
 abbrev pub step : Reading → Option ℕ → Step
 step r octet = record { next = r; octet = octet }
 
+-- the character c at the place p, by what it does
 abbrev pub moved : Position → ℕ → Option Turn → Result Step TextFault
 moved p c None = Err (fault-at p NotADigit)
 moved p c (Some t) = Ok (step (reading (t .state) (position-behind p c)) (t .octet))
 
--- one character
+-- one character: the step that it makes, or the fault
 abbrev pub read-one : Reading → ℕ → Result Step TextFault
 read-one r c = moved (r .position) c (heard (r .state) c)
 
--- the end of the text
+-- the end of the text at the place p: a fault inside a pair
 abbrev pub ended : State → Position → Result Unit TextFault
 ended BetweenPairs p = Ok tt
 ended (InsidePair v) p = Err (fault-at p HalfAPair)
 ended InComment p = Ok tt
 
+-- the end of the text
 abbrev pub finished : Reading → Result Unit TextFault
 finished r = ended (r .state) (r .position)
 
@@ -110,6 +114,7 @@ abbrev pub read-on : Reading → List ℕ → List ℕ → Result Progress TextF
 read-on r octets [] = Ok (progress r octets)
 read-on r octets (c ∷ cs) = and-then (read-one r c) (λ s. read-on (s .next) (octets ++ listOf (s .octet)) cs)
 
+-- the octets, if the text may end here
 abbrev pub concluded : Progress → Result (List ℕ) TextFault
 concluded p = and-then (finished (p .reader)) (λ _. Ok (p .octets))
 

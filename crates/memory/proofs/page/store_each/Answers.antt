@@ -1,10 +1,8 @@
-use mathlib.Core.Path.{_≡_, sym, ap, _∙_}
+use mathlib.Core.Path.{sym, _∙_}
 use mathlib.Core.List.{[]}
 use native.Mathlib.Omega.{arith}
-use lib.ListN.{set, getD}
 use Rattle.std.proofs.shelf.Lists.{set-getD}
-use Rattle.memory.specs.Model.{stored}
-use Rattle.memory.proofs.Steps.{restore-more, restore-all}
+use Rattle.memory.proofs.Steps.{restore-step, restore-all}
 use Rattle.memory.proofs.page.store_each.Needs as need
 
 pub loop-cell-holds : need.loop-cell-holds
@@ -12,13 +10,12 @@ loop-cell-holds g c = sym (set-getD (g .M·SettingsMemory .pages (c .args .memor
 
 pub loop-cell-again : need.loop-cell-again
 loop-cell-again g c =
-    let before = g .M·SettingsMemory .pages (c .args .memory .now) in
-    c .store .ensures .left
-    ∙ ap (λ ps. stored ps (c .args .page) (c .loop-cell .cell) (getD (c .args .cells .now) (c .loop-cell .cell) 0)) (c .loop-cell .inv)
-    ∙ restore-more before (c .args .page) (c .loop-cell .cell) (c .args .cells .now) (g .M·SettingsMemory .paged (c .args .memory .now)) (c .loop-cell-test .taken) (c .told-cells)
+    let pages = g .M·SettingsMemory .pages in
+    restore-step _ _ (pages (c .args .memory .now)) (c .args .page) (c .loop-cell .cell) (c .args .cells .now)
+    (g .M·SettingsMemory .paged (c .args .memory .now)) (c .loop-cell-test .taken) (c .told-cells) (c .store .ensures .left) (c .loop-cell .inv)
 
 pub returns : need.returns
 returns g c =
-    let before = g .M·SettingsMemory .pages (c .args .memory .now) in
     c .loop-cell .inv
-    ∙ restore-all before (c .args .page) (c .loop-cell .cell) (c .args .cells .now) (g .M·SettingsMemory .paged (c .args .memory .now)) (omega arith) (c .told-cells)
+    ∙ restore-all (g .M·SettingsMemory .pages (c .args .memory .now)) (c .args .page) (c .loop-cell .cell) (c .args .cells .now)
+    (g .M·SettingsMemory .paged (c .args .memory .now)) (omega arith) (c .told-cells)
