@@ -17,7 +17,7 @@ number-of TwoStagesOutOfOrder = 37
 number-of ThreeStagesOutOfOrder = 37
 number-of NotYetBuilt = 0
 
--- the command stands at 6, the data begin at 8
+-- the command stands at 6, the data begin at 8; what has no number has no position
 abbrev pub position-of : Fault → ℕ
 position-of UnknownCommand = 6
 position-of WrongLength = 8
@@ -27,7 +27,7 @@ position-of NoSuchTime = 8
 position-of WrongPoints = 8
 position-of TwoStagesOutOfOrder = 95
 position-of ThreeStagesOutOfOrder = 115
-position-of NotYetBuilt = 6
+position-of NotYetBuilt = 0
 
 abbrev pub layer-of : Fault → Layer
 layer-of f = Command

@@ -3,6 +3,10 @@ pub mod Faults
 pub mod Commands
 pub mod Stations
 pub mod Table
+pub mod Decimals
+pub mod Questions
+pub mod Windows
+pub mod History
 pub mod Readings
 pub mod Gathered
 pub mod Replies

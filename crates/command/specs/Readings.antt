@@ -9,28 +9,18 @@ use Rattle.std.specs.declared.option.Option.{Option}
 use Rattle.std.specs.declared.option.Option.the-variants.{Some, None}
 use Rattle.std.specs.declared.result.Result.{Result}
 use Rattle.std.specs.declared.result.Result.the-variants.{Ok, Err}
-use Rattle.frame.specs.Digits.{octet-of, four-digits}
+use Rattle.frame.specs.Digits.{four-digits}
 use Rattle.command.specs.declared.fault.Fault.{Fault}
-use Rattle.command.specs.declared.fault.Fault.the-variants.{WrongLength, WrongOctets, WrongPoints, NotYetBuilt}
+use Rattle.command.specs.declared.fault.Fault.the-variants.{WrongPoints, NotYetBuilt}
 use Rattle.command.specs.declared.known.Command.{Command}
 use Rattle.command.specs.declared.known.Command.the-variants.{ReadLimits, ReadTimers, ReadPresent, ReadEvents, ReadContract, Reset, ReadHalfHours, WriteSettings}
 use Rattle.command.specs.declared.point.Point.{Point}
 use Rattle.command.specs.declared.point.Point.the-variants.{Number, Blank}
 use Rattle.command.specs.declared.points.Chosen.{Chosen}
 use Rattle.command.specs.Table.{contract-octet}
-
--- what follows where all is well so far; a fault is passed on
-abbrev pub then : {X Y : Type 0} → Result X Fault → (X → Result Y Fault) → Result Y Fault
-then (Ok x) f = f x
-then (Err e) f = Err e
-
--- the number of two digits in the field at a position
-abbrev pub number-or : ℕ → Option ℕ → Result ℕ Fault
-number-or p (Some n) = Ok n
-number-or p None = Err (WrongOctets p)
-
-abbrev pub number-at : ℕ → ℕ → ℕ → Result ℕ Fault
-number-at p high low = number-or p (octet-of high low)
+use Rattle.command.specs.Questions.{then, start-count-of}
+use Rattle.command.specs.Stations.{Holding}
+use Rattle.command.specs.History.{history-reading}
 
 -- count points from start on, of so many that are listed: points count from 1; none, or one not listed, is a fault
 abbrev pub picked : ℕ → ℕ → ℕ → Result Chosen Fault
@@ -38,13 +28,9 @@ picked start count listed =
     cond (eqb start 0 || (eqb count 0 || ltb listed (start - 1 + count))) (Err WrongPoints)
     (Ok (record { first = start - 1; count = count }))
 
--- the data of a reading: a start point and a count, two digits each
+-- the points that the data of a reading ask for
 abbrev pub chosen-of : List ℕ → ℕ → Result Chosen Fault
-chosen-of xs listed =
-    cond (eqb (length xs) 4)
-    (then (number-at 8 (getD xs 0 0) (getD xs 1 0)) (λ start.
-    then (number-at 10 (getD xs 2 0) (getD xs 3 0)) (λ count. picked start count listed)))
-    (Err WrongLength)
+chosen-of xs listed = then (start-count-of xs) (λ x. picked (x .start) (x .count) listed)
 
 -- a point of a reading: a number in four digits, or four spaces
 abbrev pub octets-of : Point → List ℕ
@@ -103,13 +89,17 @@ contract-reading content page = then (chosen-of content 1) (λ x. Ok (contract p
 abbrev pub not-yet-built : Result (List ℕ) Fault
 not-yet-built = Err NotYetBuilt
 
--- the data of the answer to a command with its data, on a page
-abbrev pub content-for : Command → List ℕ → List ℕ → Result (List ℕ) Fault
-content-for ReadLimits content page = reading content (limits page)
-content-for ReadTimers content page = reading content (timers page)
-content-for ReadContract content page = contract-reading content page
-content-for ReadPresent content page = not-yet-built
-content-for ReadEvents content page = not-yet-built
-content-for Reset content page = not-yet-built
-content-for ReadHalfHours content page = not-yet-built
-content-for WriteSettings content page = not-yet-built
+-- 16: demand, predicted power, and the limit of 0C
+abbrev pub present : ℕ → ℕ → List ℕ → List Point
+present demand predicted page = Number demand ∷ Number predicted ∷ Number (limit page) ∷ []
+
+-- the data of the answer to a command with its data, by what the station holds
+abbrev pub content-for : Command → List ℕ → Holding → Result (List ℕ) Fault
+content-for ReadLimits content h = reading content (limits (h .page))
+content-for ReadTimers content h = reading content (timers (h .page))
+content-for ReadPresent content h = reading content (present (h .station .demand) (h .station .predicted) (h .page))
+content-for ReadEvents content h = history-reading content (h .station .events) (h .events)
+content-for ReadContract content h = contract-reading content (h .page)
+content-for Reset content h = not-yet-built
+content-for ReadHalfHours content h = not-yet-built
+content-for WriteSettings content h = not-yet-built

@@ -1,6 +1,8 @@
 -- What a station answers to a request, and how that leaves the buffer.
+use mathlib.Core.Bool.{Bool, cond, _&&_}
 use mathlib.Core.List.{List, [], _∷_}
 use Prim.Native.Nat.{ℕ}
+use lib.Dec.{eqb}
 use lib.ListN.{length}
 use Rattle.std.specs.declared.option.Option.{Option}
 use Rattle.std.specs.declared.option.Option.the-variants.{Some, None}
@@ -10,15 +12,19 @@ use Rattle.frame.specs.declared.answer.NoRoom.{NoRoom}
 use Rattle.frame.specs.Requests.{Asked}
 use Rattle.frame.specs.Answers.{counted, fronted}
 use Rattle.memory.specs.declared.MemoryRefusal.{MemoryRefusal}
+use Rattle.command.specs.declared.event.Event.{Event}
 use Rattle.command.specs.declared.fault.Fault.{Fault}
+use Rattle.command.specs.declared.half_hour.HalfHour.{HalfHour}
 use Rattle.command.specs.declared.known.Command.{Command}
 use Rattle.command.specs.declared.respond.Composed.{Composed}
 use Rattle.command.specs.declared.respond.Reply.{Reply}
 use Rattle.command.specs.declared.respond.Unanswered.{Unanswered}
-use Rattle.command.specs.declared.respond.Unanswered.the-variants.{NoPage, NoRoom as no-room}
+use Rattle.command.specs.declared.respond.Unanswered.the-variants.{NoPage, WrongShare, NoRoom as no-room}
 use Rattle.command.specs.Commands.{command-of, answer-code, abnormal-code}
 use Rattle.command.specs.Gathered.{gathered}
-use Rattle.command.specs.Readings.{then, content-for}
+use Rattle.command.specs.Stations.{StationView, Holding, holding}
+use Rattle.command.specs.Questions.{then}
+use Rattle.command.specs.Readings.{content-for}
 
 -- what stands in an answer beside the station's number: the command octets and the data
 pub record Saying : Type 0 where
@@ -28,11 +34,11 @@ pub record Saying : Type 0 where
 abbrev pub saying : List ℕ → List ℕ → Saying
 saying code content = record { code = code; content = content }
 
--- the normal answer to a request on a page, or the fault of the abnormal one
-abbrev pub replied : Asked → List ℕ → Result Saying Fault
-replied a page =
+-- the normal answer of a station to a request, or the fault of the abnormal one
+abbrev pub replied : Asked → Holding → Result Saying Fault
+replied a h =
     then (command-of (a .command)) (λ c.
-    then (content-for c (a .content) page) (λ content. Ok (saying (answer-code c) content)))
+    then (content-for c (a .content) h) (λ content. Ok (saying (answer-code c) content)))
 
 -- what is said: the abnormal answer has command FF and no data
 abbrev pub said : Result Saying Fault → Saying
@@ -51,17 +57,26 @@ told-with f (Err e) = Err no-room
 abbrev pub told : ℕ → Result Saying Fault → Result Reply Unanswered
 told room r = told-with (fault-in r) (counted room (said r .content))
 
--- what the station with a page tells of a request, in a buffer of so many octets
-abbrev pub responded : Asked → Result (List ℕ) MemoryRefusal → ℕ → Result Reply Unanswered
-responded a (Ok page) room = told room (replied a page)
-responded a (Err e) room = Err NoPage
+-- a station's shares have as many places as their rings
+abbrev pub shares-fit : StationView → List Event → List HalfHour → Bool
+shares-fit s events half-hours = eqb (length events) (s .events .capacity) && eqb (length half-hours) (s .half-hours .capacity)
+
+-- what a station needs to answer: a page, and shares that fit
+abbrev pub held-by : StationView → List Event → List HalfHour → Result (List ℕ) MemoryRefusal → Result Holding Unanswered
+held-by s events half-hours (Ok page) = cond (shares-fit s events half-hours) (Ok (holding s page events half-hours)) (Err WrongShare)
+held-by s events half-hours (Err e) = Err NoPage
+
+-- what the station tells of a request, in a buffer of so many octets
+abbrev pub responded : Asked → Result Holding Unanswered → ℕ → Result Reply Unanswered
+responded a (Ok h) room = told room (replied a h)
+responded a (Err e) room = Err e
 
 abbrev pub written : Asked → Saying → List ℕ → List ℕ
 written a s buffer = fronted (a .address) (s .code) (s .content) buffer
 
 -- the buffer: the answer at its front, all else as it was
-abbrev pub answer-left : Asked → Result (List ℕ) MemoryRefusal → List ℕ → List ℕ
-answer-left a (Ok page) buffer = written a (said (replied a page)) buffer
+abbrev pub answer-left : Asked → Result Holding Unanswered → List ℕ → List ℕ
+answer-left a (Ok h) buffer = written a (said (replied a h)) buffer
 answer-left a (Err e) buffer = buffer
 
 -- what the code composes

@@ -1,7 +1,10 @@
 -- A station as plain values, without what their types say of them.
+use mathlib.Core.List.{List}
 use Prim.Native.Nat.{ℕ}
 use Rattle.book.specs.Ranked.{RingView, view-of}
 use Rattle.calendar.specs.Moment.{Moment, moment-of, first}
+use Rattle.command.specs.declared.event.Event.{Event}
+use Rattle.command.specs.declared.half_hour.HalfHour.{HalfHour}
 use Rattle.command.specs.declared.station.Station.{Station}
 
 pub record StationView : Type 0 where
@@ -32,3 +35,13 @@ as-enrolled n events half-hours = record {
   events = events;
   half-hours = half-hours;
 }
+
+-- all that a station holds: itself, its page, and the places of its two shares
+pub record Holding : Type 0 where
+  pub station : StationView
+  pub page : List ℕ
+  pub events : List Event
+  pub half-hours : List HalfHour
+
+abbrev pub holding : StationView → List ℕ → List Event → List HalfHour → Holding
+holding s page events half-hours = record { station = s; page = page; events = events; half-hours = half-hours }

@@ -3,20 +3,25 @@ ghost use mathlib.Core.Path.{_≡_};
 ghost use mathlib.Core.List.{List, [], _∷_};
 ghost use Prim.Native.Nat.{ℕ, _+_, _*_, _≤_};
 ghost use lib.ListN.{length};
-ghost use Rattle.frame.specs.Requests.{asked-of};
+ghost use Rattle.command.specs.Stations.{station-view, holding};
 ghost use Rattle.command.specs.Gathered.{gathered-in};
 ghost use Rattle.command.specs.Readings.{reading, contract-reading, content-for};
 use crate::content::Content;
+use crate::event::Event;
 use crate::fault::Fault;
 use crate::gather::show_points;
 use crate::gather::show_text;
+use crate::half_hour::HalfHour;
+use crate::history::read_events;
 use crate::known::Command;
 use crate::point::Point;
 use crate::points::limits_of;
+use crate::points::present_of;
 use crate::points::read_points;
 use crate::points::timers_of;
 use crate::settings::CONTRACT_NUMBER;
 use crate::settings::Page;
+use crate::station::Station;
 
 // The points that the data of a reading ask for, of those listed.
 fn read_listed(content: &[u8], points: &[Point]) -> Result<Content, Fault>
@@ -39,18 +44,24 @@ fn read_contract(content: &[u8], page: &Page) -> Result<Content, Fault>
     Ok(show_text(&page[first..end]))
 }
 
-// The data of the answer to a command with its data, on a page.
-pub(crate) fn content_for(command: Command, content: &[u8], page: &Page) -> Result<Content, Fault>
-    ensures { λ r. ⌜ gathered-in r ≡ content-for command (now (content .entry)) (now (page .entry)) ⌝ }
+// The data of the answer to a command with its data, by what the station holds.
+pub(crate) fn content_for(
+    command: Command,
+    content: &[u8],
+    station: &Station,
+    page: &Page,
+    events: &[Event],
+    half_hours: &[HalfHour],
+) -> Result<Content, Fault>
+    requires { ⌜ length (now events) ≡ station-view (now station) .events .capacity ⌝ }
+    ensures { λ r. ⌜ gathered-in r ≡ content-for command (now (content .entry)) (holding (station-view (now (station .entry))) (now (page .entry)) (now (events .entry)) (now («half_hours» .entry))) ⌝ }
 {
     match command {
         Command::ReadLimits => read_listed(content, &limits_of(page)),
         Command::ReadTimers => read_listed(content, &timers_of(page)),
+        Command::ReadPresent => read_listed(content, &present_of(station, page)),
+        Command::ReadEvents => read_events(content, &station.events, events),
         Command::ReadContract => read_contract(content, page),
-        Command::ReadPresent
-        | Command::ReadEvents
-        | Command::Reset
-        | Command::ReadHalfHours
-        | Command::WriteSettings => Err(Fault::NotYetBuilt),
+        Command::Reset | Command::ReadHalfHours | Command::WriteSettings => Err(Fault::NotYetBuilt),
     }
 }

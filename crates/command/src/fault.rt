@@ -44,7 +44,8 @@ impl Fault {
         ensures { λ r. ⌜ r ≡ position-of self ⌝ }
     {
         match self {
-            Fault::UnknownCommand | Fault::NotYetBuilt => 6,
+            Fault::NotYetBuilt => 0,
+            Fault::UnknownCommand => 6,
             Fault::WrongLength | Fault::WrongPoints | Fault::NoSuchTime => 8,
             Fault::WrongOctets { position } | Fault::WrongValue { position } => position,
             Fault::TwoStagesOutOfOrder => 95,

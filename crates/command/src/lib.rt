@@ -2,11 +2,14 @@
 // It knows nothing of the line and of other stations.
 mod compose;
 mod content;
+mod decimals;
 pub mod event;
 pub mod event_kind;
 pub mod fault;
+mod field;
 mod gather;
 pub mod half_hour;
+mod history;
 pub mod known;
 mod point;
 mod points;
@@ -14,3 +17,4 @@ pub mod respond;
 pub mod setting;
 pub mod settings;
 pub mod station;
+mod window;

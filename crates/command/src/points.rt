@@ -4,8 +4,9 @@ ghost use mathlib.Core.List.{List, [], _∷_};
 ghost use Prim.Native.Nat.{ℕ, _+_, _-_, _≤_};
 ghost use lib.ListN.{length};
 ghost use Rattle.std.specs.Vec.{made};
-ghost use Rattle.command.specs.Readings.{number-at, chosen-of, picked, limits, timers};
+ghost use Rattle.command.specs.Readings.{chosen-of, picked, limit, limits, timers, present};
 use crate::fault::Fault;
+use crate::field::read_start_count;
 use crate::point::Point;
 use crate::settings::CAUTION_2;
 use crate::settings::CAUTION_3;
@@ -23,28 +24,13 @@ use crate::settings::OFF_HOLD;
 use crate::settings::ON_HOLD;
 use crate::settings::Page;
 use crate::settings::SYNC_TYPE;
-use frame::digits;
+use crate::station::Station;
 
 // Which points of a list are asked for: so many, from the first on, counted from 0.
 #[derive(Clone, Copy)]
 pub(crate) struct Chosen {
     pub(crate) first: usize,
     pub(crate) count: usize,
-}
-
-// Where the start point and the count stand in the frame.
-const START_POSITION: u8 = 8;
-
-const COUNT_POSITION: u8 = 10;
-
-// The number of two digits in a field.
-fn number_at(position: u8, high: u8, low: u8) -> Result<u8, Fault>
-    ensures { λ r. ⌜ r ≡ number-at position high low ⌝ }
-{
-    match digits::octet(high, low) {
-        Some(number) => Ok(number),
-        None => Err(Fault::WrongOctets { position }),
-    }
 }
 
 // The points from start on, so many of those listed; points count from 1.
@@ -61,17 +47,24 @@ fn pick(start: u8, count: u8, listed: usize) -> Result<Chosen, Fault>
     })
 }
 
-// The points that the data of a reading ask for: a start point and a count, two digits each.
+// The points that the data of a reading ask for.
 pub(crate) fn read_points(content: &[u8], listed: usize) -> Result<Chosen, Fault>
     ensures same { λ r. ⌜ r ≡ chosen-of (now (content .entry)) listed ⌝ }
     ensures within { λ r. ⌜ made r (λ x. x .first + x .count ≤ listed) ⌝ }
 {
-    let [a, b, c, d] = content else {
-        return Err(Fault::WrongLength);
-    };
-    let start = number_at(START_POSITION, *a, *b)?;
-    let count = number_at(COUNT_POSITION, *c, *d)?;
-    pick(start, count, listed)
+    let asked = read_start_count(content)?;
+    pick(asked.start, asked.count, listed)
+}
+
+// The limit that the demand mode chooses: that of two stages or that of three.
+fn limit_of(page: &Page) -> u16
+    ensures { λ r. ⌜ r ≡ limit (now (page .entry)) ⌝ }
+{
+    if page[DEMAND_MODE.cell] == 1 {
+        page[LIMIT_2.cell]
+    } else {
+        page[LIMIT_3.cell]
+    }
 }
 
 // The eight points of 0C. The demand mode chooses between the limits of two stages and those of three.
@@ -84,11 +77,6 @@ pub(crate) fn limits_of(page: &Page) -> [Point; 8]
     } else {
         page[CAUTION_3.cell]
     };
-    let limit = if two_stages {
-        page[LIMIT_2.cell]
-    } else {
-        page[LIMIT_3.cell]
-    };
     let mask = if two_stages {
         page[MASK_2.cell]
     } else {
@@ -97,7 +85,7 @@ pub(crate) fn limits_of(page: &Page) -> [Point; 8]
     [
         Point::Number(page[CT_RATIO.cell]),
         Point::Number(caution),
-        Point::Number(limit),
+        Point::Number(limit_of(page)),
         Point::Number(mask),
         Point::Number(page[METER_DAY.cell]),
         Point::Number(0),
@@ -121,5 +109,16 @@ pub(crate) fn timers_of(page: &Page) -> [Point; 10]
         Point::Blank,
         Point::Blank,
         Point::Blank,
+    ]
+}
+
+// The three points of 16.
+pub(crate) fn present_of(station: &Station, page: &Page) -> [Point; 3]
+    ensures { λ r. ⌜ r ≡ present (now (station .entry) .demand) (now (station .entry) .predicted) (now (page .entry)) ⌝ }
+{
+    [
+        Point::Number(station.demand),
+        Point::Number(station.predicted),
+        Point::Number(limit_of(page)),
     ]
 }

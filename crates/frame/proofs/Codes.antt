@@ -8,7 +8,7 @@ use lib.Dec.{eqb}
 use lib.ListN.{length, take, drop, getD}
 use Rattle.std.proofs.shelf.Ways.{tells}
 use Rattle.std.proofs.shelf.Lists.{append-assoc, length-append, take-append-le, take-all, drop-append-le, drop-all, getD-append-right, length-push}
-use Rattle.std.proofs.shelf.Tests.{eq-eqb, and-from, cond-true}
+use Rattle.std.proofs.shelf.Tests.{eq-eqb, le-leb, and-from, cond-true}
 use Rattle.std.specs.shelf.Lists.{between}
 use Rattle.std.specs.declared.option.Option.the-variants.{Some, None}
 use Rattle.frame.specs.Digits.{digit-of, value-of, octet-of, two-digits}
@@ -93,7 +93,7 @@ module _ (address command content : List ℕ) (four : length address ≡ 4) (two
 
   framed-in : framed answer body check ≡ true
   framed-in =
-      and-from _ _ (eq-eqb _ _ etx-in) (and-from _ _ sum-in (eq-eqb _ _ cr-in))
+      and-from _ _ (le-leb 7 (length body) (omega (arith, length-body))) (and-from _ _ (eq-eqb _ _ etx-in) (and-from _ _ sum-in (eq-eqb _ _ cr-in)))
 
   -- an answer is read back as the parts that it was written with
   pub reads-back : read-back answer ≡ Some (answer-with address command content)

@@ -51,10 +51,11 @@ answer-with a c d = record { address = a; command = c; content = d }
 abbrev pub parts-of : List ℕ → Answer
 parts-of body = answer-with (take 4 body) (between 4 6 body) (between 6 (length body - 1) body)
 
--- STX, a body that ends with ETX, its checksum, and CR
+-- STX, a body of number, command, data and ETX, its checksum, and CR
 abbrev pub framed : List ℕ → List ℕ → List ℕ → Bool
 framed xs body check =
-    eqb (getD xs 0 0) 2 && (eqb (getD body (length body - 1) 0) 3 && (summed body check && eqb (getD xs (length xs - 1) 0) 13))
+    eqb (getD xs 0 0) 2
+    && (leb 7 (length body) && (eqb (getD body (length body - 1) 0) 3 && (summed body check && eqb (getD xs (length xs - 1) 0) 13)))
 
 abbrev pub read-body : List ℕ → List ℕ → List ℕ → Option Answer
 read-body xs body check = cond (framed xs body check) (Some (parts-of body)) None

@@ -3,12 +3,14 @@ use mathlib.Core.Path.{_≡_, refl, sym, ap, _∙_}
 use mathlib.Core.Logic.{inl, inr}
 use mathlib.Core.Bool.{Bool, true, false, cond}
 use mathlib.Core.List.{List, [], _∷_, _++_}
-use Prim.Native.Nat.{ℕ, _+_, _-_, _<_, _≤_}
+use Prim.Native.Nat.{ℕ, _+_, _-_, _*_, _<_, _≤_, min}
+use native.Mathlib.Nat.{add-mul}
 use native.Mathlib.Omega.{arith}
 use lib.Dec.{ltb}
 use lib.ListN.{length, getD, take, drop}
-use Rattle.std.proofs.shelf.Lists.{length-append}
-use Rattle.std.proofs.shelf.Tests.{cases-bool, cond-true, cond-false, lt-ltb}
+use Rattle.std.proofs.shelf.Lists.{length-append, length-take, length-drop}
+use Rattle.std.proofs.shelf.Bits.{mul-le}
+use Rattle.std.proofs.shelf.Tests.{cases-bool, cond-true, cond-false, lt-ltb, eq-eqb, and-from}
 use Rattle.std.specs.declared.option.Option.{Option}
 use Rattle.std.specs.declared.option.Option.the-variants.{Some, None}
 use Rattle.std.specs.declared.result.Result.{Result}
@@ -18,15 +20,20 @@ use Rattle.frame.specs.declared.fault.Fault.{Fault}
 use Rattle.frame.specs.Requests.{Asked, verified, summed, asked-by, after-verifying, unsealed, opened}
 use Rattle.frame.specs.Answers.{answer-of, room, counted, fronted}
 use Rattle.memory.specs.Model.{loaded}
+use Rattle.book.specs.Ranked.{share}
+use Rattle.command.specs.declared.event.Event.{Event}
 use Rattle.command.specs.declared.fault.Fault.{Fault as CommandFault}
+use Rattle.command.specs.declared.half_hour.HalfHour.{HalfHour}
 use Rattle.command.specs.declared.known.Command.{Command}
 use Rattle.command.specs.declared.respond.Reply.{Reply}
 use Rattle.command.specs.declared.respond.Unanswered.{Unanswered}
-use Rattle.command.specs.Stations.{StationView}
+use Rattle.command.specs.declared.respond.Unanswered.the-variants.{WrongShare}
+use Rattle.command.specs.Stations.{StationView, Holding, holding}
 use Rattle.command.specs.Commands.{command-of, answer-code}
-use Rattle.command.specs.Readings.{then, content-for}
-use Rattle.command.specs.Replies.{Saying, saying, said, fault-in, replied, told-with, told, responded, answer-left}
-use Rattle.line.specs.Receiving.{place-of, Outcome, outcome, octets-of, spoken, served, dispatched}
+use Rattle.command.specs.Questions.{then}
+use Rattle.command.specs.Readings.{content-for}
+use Rattle.command.specs.Replies.{Saying, saying, said, fault-in, replied, told-with, told, shares-fit, held-by, responded, answer-left}
+use Rattle.line.specs.Receiving.{place-of, nobody, Lent, held-at, Outcome, outcome, octets-of, spoken, served, dispatched}
 
 clash : {X : Type 0} → _≡_ {A = ℕ} 0 1 → X
 clash z = absurd (let no-way : ⊥ = omega arith in no-way)
@@ -47,12 +54,12 @@ content-two : (c : Command) (r : Result (List ℕ) CommandFault) → length (sai
 content-two c (Ok content) = refl
 content-two c (Err f) = refl
 
-command-two : (a : Asked) (page : List ℕ) (r : Result Command CommandFault) → length (said (then r (λ c. then (content-for c (a .content) page) (λ content. Ok (saying (answer-code c) content)))) .code) ≡ 2
-command-two a page (Ok c) = content-two c (content-for c (a .content) page)
-command-two a page (Err f) = refl
+command-two : (a : Asked) (h : Holding) (r : Result Command CommandFault) → length (said (then r (λ c. then (content-for c (a .content) h) (λ content. Ok (saying (answer-code c) content)))) .code) ≡ 2
+command-two a h (Ok c) = content-two c (content-for c (a .content) h)
+command-two a h (Err f) = refl
 
-code-two : (a : Asked) (page : List ℕ) → length (said (replied a page) .code) ≡ 2
-code-two a page = command-two a page (command-of (a .command))
+code-two : (a : Asked) (h : Holding) → length (said (replied a h) .code) ≡ 2
+code-two a h = command-two a h (command-of (a .command))
 
 length-answer : (address command content : List ℕ) → length address ≡ 4 → length command ≡ 2 → length (answer-of address command content) ≡ 11 + length content
 length-answer address command content four two = simp length-append (omega arith)
@@ -86,19 +93,42 @@ module _ (a : Asked) (r : Result Saying CommandFault) (reply : Reply) (buffer ou
   pub spoken-is : outcome (Ok (Some reply)) out ≡ spoken octets r buffer
   spoken-is = ap (λ x. outcome (Ok (Some x)) out) reply-is ∙ ap (outcome (Ok (Some (record { length = length octets; fault = fault-in r })))) out-is
 
-module _ (a : Asked) (ss : List StationView) (ps : List (List ℕ)) (k : ℕ) (xs : List ℕ) (reply : Reply) (buffer out : List ℕ)
-    (asked : Ok a ≡ opened xs)
-    (place : Ok k ≡ place-of (a .named) ss)
-    (within : k < length ps)
-    (tells : Ok reply ≡ responded a (loaded ps k) (length buffer))
-    (wrote : out ≡ answer-left a (loaded ps k) buffer) where
-  page-is : loaded ps k ≡ Ok (getD ps k [])
-  page-is = cond-true _ _ _ (lt-ltb k (length ps) within)
+-- the k-th of n parts of c
+pub part-in : (k n c len : ℕ) → k < n → len ≡ n * c → k * c + c ≤ len
+part-in k n c len h e = omega (arith, mul-le (k + 1) c n c (omega arith) (omega arith), add-mul k 1 c)
 
-  pub served-is : outcome (Ok (Some reply)) out ≡ dispatched ss ps buffer (opened xs)
-  served-is =
-      spoken-is a (replied a (getD ps k [])) reply buffer out (address-four xs a asked) (code-two a (getD ps k []))
-      (tells ∙ ap (λ p. responded a p (length buffer)) page-is)
-      (wrote ∙ ap (λ p. answer-left a p buffer) page-is)
-      ∙ ap (served a ps buffer) place
-      ∙ ap (dispatched ss ps buffer) asked
+length-share : {R : Type 0} (k n c : ℕ) (xs : List R) → k < n → length xs ≡ n * c → length (share c k xs) ≡ c
+length-share k n c xs h e = let p = part-in k n c (length xs) h e in length-take c (drop (k * c) xs) ∙ ap (min c) (length-drop (k * c) xs) ∙ omega arith
+
+-- the shares of a station whose rings have the sizes of the line's shares
+module _ (x : Lent) (s : StationView) (n k : ℕ)
+    (among : k < n)
+    (events-sized : s .events .capacity ≡ x .event-share)
+    (half-hours-sized : s .half-hours .capacity ≡ x .half-hour-share)
+    (events-fit : length (x .events) ≡ n * x .event-share)
+    (half-hours-fit : length (x .half-hours) ≡ n * x .half-hour-share) where
+  pub fit-is : (events : List Event) (half-hours : List HalfHour) → events ≡ share (x .event-share) k (x .events) → half-hours ≡ share (x .half-hour-share) k (x .half-hours) → shares-fit s events half-hours ≡ true
+  fit-is events half-hours e h =
+      and-from _ _
+      (eq-eqb _ _ (ap length e ∙ length-share k n (x .event-share) (x .events) among events-fit ∙ sym events-sized))
+      (eq-eqb _ _ (ap length h ∙ length-share k n (x .half-hour-share) (x .half-hours) among half-hours-fit ∙ sym half-hours-sized))
+
+  pub held-is : (events : List Event) (half-hours : List HalfHour) → events ≡ share (x .event-share) k (x .events) → half-hours ≡ share (x .half-hour-share) k (x .half-hours) → s ≡ getD (x .stations) k nobody → k < length (x .pages) → held-by s events half-hours (loaded (x .pages) k) ≡ Ok (held-at x k)
+  held-is events half-hours e h here within =
+      ap (held-by s events half-hours) (cond-true _ _ _ (lt-ltb k (length (x .pages)) within))
+      ∙ cond-true (shares-fit s events half-hours) (Ok (holding s (getD (x .pages) k []) events half-hours)) (Err WrongShare) (fit-is events half-hours e h)
+      ∙ ap (λ t. Ok (holding t (getD (x .pages) k []) events half-hours)) here
+      ∙ ap (λ t. Ok (holding (getD (x .stations) k nobody) (getD (x .pages) k []) t half-hours)) e
+      ∙ ap (λ t. Ok (holding (getD (x .stations) k nobody) (getD (x .pages) k []) (share (x .event-share) k (x .events)) t)) h
+
+-- what the station at a place answered
+pub served-is : (a : Asked) (x : Lent) (k : ℕ) (xs : List ℕ) (reply : Reply) (buffer out : List ℕ) (held : Result Holding Unanswered)
+    → Ok a ≡ opened xs → Ok k ≡ place-of (a .named) (x .stations) → held ≡ Ok (held-at x k)
+    → Ok reply ≡ responded a held (length buffer) → out ≡ answer-left a held buffer
+    → outcome (Ok (Some reply)) out ≡ dispatched x buffer (opened xs)
+served-is a x k xs reply buffer out held asked place has tells wrote =
+    spoken-is a (replied a (held-at x k)) reply buffer out (address-four xs a asked) (code-two a (held-at x k))
+    (tells ∙ ap (λ p. responded a p (length buffer)) has)
+    (wrote ∙ ap (λ p. answer-left a p buffer) has)
+    ∙ ap (served a x buffer) place
+    ∙ ap (dispatched x buffer) asked

@@ -4,7 +4,9 @@ use mathlib.Core.List.{List, [], _∷_, _++_, map}
 use Prim.Native.Nat.{ℕ, _+_, _-_, _<_, _≤_}
 use native.Mathlib.Omega.{arith}
 use lib.ListN.{length, getD, set, take, drop, replicate}
-use Rattle.std.proofs.shelf.Lists.{take-more-set, take-all, map-more, map-push, map-set, length-map, length-take, length-take-le, length-drop, length-append, set-getD, getD-replicate, getD-default}
+use Rattle.std.proofs.shelf.Lists.{take-more-set, take-all, map-more, map-push, map-set, length-map, length-take, length-take-le, length-drop, length-append, set-getD, getD-replicate, getD-default, getD-take, take-map}
+use native.Mathlib.Nat.{sub-zero}
+use borrow.Rule.Slice.PartMut.{midOf}
 use Rattle.std.proofs.shelf.Edits.{map-over-more}
 use Rattle.frame.specs.declared.station_number.StationNumber.{StationNumber}
 use Rattle.command.specs.declared.station.Station.{Station}
@@ -63,3 +65,19 @@ pages-more i ps now h e =
 
 pub length-initial-pages : (i : ℕ) (ps : List (List ℕ)) → length (initial-pages i ps) ≡ length ps
 length-initial-pages i ps = simp (length-append, length-map, length-take, length-drop) (omega arith)
+
+-- the first n stations of a table, as they are lent
+pub lent-is : (n : ℕ) (ss : List Station) → midOf 0 (n - 0) ss ≡ take n ss
+lent-is n ss = ap (λ m. take m ss) (sub-zero n)
+
+pub length-lent : (f : Station → ℕ) (n c : ℕ) (ss : List Station) → n ≤ 32 → map f ss ≡ alike c → length (midOf 0 (n - 0) ss) ≡ n
+length-lent f n c ss h e = ap length (lent-is n ss) ∙ length-take-le n ss (omega (arith, length-table f c ss e))
+
+pub sized-lent : (f : Station → ℕ) (n c : ℕ) (ss : List Station) → n ≤ 32 → map f ss ≡ alike c → (k : ℕ) → k < length (midOf 0 (n - 0) ss) → getD (map f (midOf 0 (n - 0) ss)) k 0 ≡ c
+sized-lent f n c ss h e k l =
+    let few : k < n = omega (arith, length-lent f n c ss h e) in
+    ap (λ (t : List Station). getD (map f t) k 0) (lent-is n ss)
+    ∙ ap (λ (t : List ℕ). getD t k 0) (sym (take-map f n ss))
+    ∙ getD-take n (map f ss) k 0 few
+    ∙ ap (λ (t : List ℕ). getD t k 0) e
+    ∙ alike-at c k (omega arith)

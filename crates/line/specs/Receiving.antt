@@ -17,7 +17,10 @@ use Rattle.frame.specs.Requests.{Asked, opened}
 use Rattle.frame.specs.Answers.{answer-of}
 use Rattle.command.specs.declared.fault.Fault.{Fault as CommandFault}
 use Rattle.command.specs.declared.respond.Reply.{Reply}
-use Rattle.command.specs.Stations.{StationView}
+use Rattle.book.specs.Ranked.{share, empty}
+use Rattle.command.specs.declared.event.Event.{Event}
+use Rattle.command.specs.declared.half_hour.HalfHour.{HalfHour}
+use Rattle.command.specs.Stations.{StationView, as-enrolled, Holding, holding}
 use Rattle.command.specs.Replies.{Saying, said, fault-in, replied}
 use Rattle.line.specs.declared.reception.Reception.{Reception}
 use Rattle.line.specs.declared.reception.Reception.the-variants.{Nothing, Dropped, Answered}
@@ -63,6 +66,10 @@ abbrev pub place-of : Option StationNumber → List StationView → Result ℕ F
 place-of (Some n) ss = known (place-from 0 (n .value) ss)
 place-of None ss = Err UnknownStation
 
+-- a station that is none, for places past the last
+abbrev pub nobody : StationView
+nobody = as-enrolled 0 (empty 1) (empty 1)
+
 -- what is told of a frame, and how the buffer is left
 pub record Outcome : Type 0 where
   pub told : Result (Option Reply) Fault
@@ -79,47 +86,80 @@ octets-of a s = answer-of (a .address) (s .code) (s .content)
 abbrev pub spoken : List ℕ → Result Saying CommandFault → List ℕ → Outcome
 spoken octets r buffer = outcome (Ok (Some (record { length = length octets; fault = fault-in r }))) (octets ++ drop (length octets) buffer)
 
--- the station at a place answers from its page
-abbrev pub served : Asked → List (List ℕ) → List ℕ → Result ℕ Fault → Outcome
-served a pages buffer (Ok k) = spoken (octets-of a (said (replied a (getD pages k [])))) (replied a (getD pages k [])) buffer
-served a pages buffer (Err e) = outcome (Err e) buffer
+-- the stations of a line, and all that is lent to them: the memory's pages and both books, with the sizes of their shares
+pub record Lent : Type 0 where
+  pub stations : List StationView
+  pub pages : List (List ℕ)
+  pub events : List Event
+  pub event-share : ℕ
+  pub half-hours : List HalfHour
+  pub half-hour-share : ℕ
+
+-- what the station at place k holds: page k, and share k of each book
+abbrev pub held-at : Lent → ℕ → Holding
+held-at x k = holding (getD (x .stations) k nobody) (getD (x .pages) k []) (share (x .event-share) k (x .events)) (share (x .half-hour-share) k (x .half-hours))
+
+-- the station at a place answers by what it holds
+abbrev pub served : Asked → Lent → List ℕ → Result ℕ Fault → Outcome
+served a x buffer (Ok k) = spoken (octets-of a (said (replied a (held-at x k)))) (replied a (held-at x k)) buffer
+served a x buffer (Err e) = outcome (Err e) buffer
 
 -- a frame that was taken apart
-abbrev pub dispatched : List StationView → List (List ℕ) → List ℕ → Result Asked Fault → Outcome
-dispatched ss pages buffer (Ok a) = served a pages buffer (place-of (a .named) ss)
-dispatched ss pages buffer (Err e) = outcome (Err e) buffer
+abbrev pub dispatched : Lent → List ℕ → Result Asked Fault → Outcome
+dispatched x buffer (Ok a) = served a x buffer (place-of (a .named) (x .stations))
+dispatched x buffer (Err e) = outcome (Err e) buffer
 
 -- what reception told: nothing yet, a whole frame, or a fault
-abbrev pub followed : List StationView → List (List ℕ) → List ℕ → Told → Outcome
-followed ss pages buffer (Ok None) = outcome (Ok None) buffer
-followed ss pages buffer (Ok (Some xs)) = dispatched ss pages buffer (opened xs)
-followed ss pages buffer (Err e) = outcome (Err e) buffer
+abbrev pub followed : Lent → List ℕ → Told → Outcome
+followed x buffer (Ok None) = outcome (Ok None) buffer
+followed x buffer (Ok (Some xs)) = dispatched x buffer (opened xs)
+followed x buffer (Err e) = outcome (Err e) buffer
 
 abbrev pub reception-of : Result (Option Reply) Fault → Reception
 reception-of (Ok None) = Nothing
 reception-of (Ok (Some r)) = Answered (r .length) (r .fault)
 reception-of (Err e) = Dropped e
 
+-- what a caller lends to a call: the memory's pages and both books
+pub record Loan : Type 0 where
+  pub pages : List (List ℕ)
+  pub events : List Event
+  pub half-hours : List HalfHour
+
+abbrev pub loan : List (List ℕ) → List Event → List HalfHour → Loan
+loan pages events half-hours = record { pages = pages; events = events; half-hours = half-hours }
+
+abbrev pub lent-to : LineView → Loan → Lent
+lent-to l x = record {
+  stations = l .stations;
+  pages = x .pages;
+  events = x .events;
+  event-share = l .event-share;
+  half-hours = x .half-hours;
+  half-hour-share = l .half-hour-share;
+}
+
 -- what an admitted signal comes to
-abbrev pub heard : LineView → Signal → List (List ℕ) → List ℕ → Outcome
-heard l s pages buffer = followed (l .stations) pages buffer (step (l .link) s .told)
+abbrev pub heard : LineView → Signal → Loan → List ℕ → Outcome
+heard l s x buffer = followed (lent-to l x) buffer (step (l .link) s .told)
 
 abbrev pub with-link : LineView → Link → LineView
 with-link l k = record { link = k; stations = l .stations; event-share = l .event-share; half-hour-share = l .half-hour-share }
+
+-- the questions of receiving, of what is lent
+abbrev pub asked-of : LineView → Loan → List ℕ → Verdict
+asked-of l x buffer = receiving-asked l (length (x .pages)) (length (x .events)) (length (x .half-hours)) (length buffer)
 
 -- what receiving tells: a refusal, or what the signal comes to
 abbrev pub told-after : Verdict → Reception → Result Reception Refusal
 told-after (Ok u) r = Ok r
 told-after (Err e) r = Err e
 
-abbrev pub reception-after : LineView → Signal → List (List ℕ) → ℕ → ℕ → List ℕ → Result Reception Refusal
-reception-after l s pages events half-hours buffer =
-    told-after (receiving-asked l (length pages) events half-hours (length buffer)) (reception-of (heard l s pages buffer .told))
+abbrev pub reception-after : LineView → Signal → Loan → List ℕ → Result Reception Refusal
+reception-after l s x buffer = told-after (asked-of l x buffer) (reception-of (heard l s x buffer .told))
 
-abbrev pub line-after : LineView → Signal → List (List ℕ) → ℕ → ℕ → List ℕ → LineView
-line-after l s pages events half-hours buffer =
-    after (receiving-asked l (length pages) events half-hours (length buffer)) l (with-link l (step (l .link) s .next))
+abbrev pub line-after : LineView → Signal → Loan → List ℕ → LineView
+line-after l s x buffer = after (asked-of l x buffer) l (with-link l (step (l .link) s .next))
 
-abbrev pub answer-after : LineView → Signal → List (List ℕ) → ℕ → ℕ → List ℕ → List ℕ
-answer-after l s pages events half-hours buffer =
-    after (receiving-asked l (length pages) events half-hours (length buffer)) buffer (heard l s pages buffer .answer)
+abbrev pub answer-after : LineView → Signal → Loan → List ℕ → List ℕ
+answer-after l s x buffer = after (asked-of l x buffer) buffer (heard l s x buffer .answer)

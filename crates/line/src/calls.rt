@@ -5,7 +5,7 @@ ghost use lib.ListN.{length};
 ghost use Rattle.std.specs.Vec.{made};
 ghost use Rattle.frame.specs.Reception.{step};
 ghost use Rattle.line.specs.Lines.{line-view};
-ghost use Rattle.line.specs.Receiving.{enrolled-asked, pages-present-asked, books-asked, room-asked, receiving-asked, heard, reception-of, with-link, reception-after, line-after, answer-after};
+ghost use Rattle.line.specs.Receiving.{enrolled-asked, pages-present-asked, books-asked, room-asked, receiving-asked, loan, heard, reception-of, with-link, reception-after, line-after, answer-after};
 use crate::line::Line;
 use crate::reception::Reception;
 use crate::refusal::Refusal;
@@ -59,7 +59,8 @@ impl Line {
     }
 
     fn books_asked(&self, events: usize, half_hours: usize) -> Result<(), Refusal>
-        ensures { λ r. ⌜ r ≡ books-asked (line-view (now (self .entry))) events «half_hours» ⌝ }
+        ensures asked { λ r. ⌜ r ≡ books-asked (line-view (now (self .entry))) events «half_hours» ⌝ }
+        ensures fit { λ r. ⌜ made r (λ _. (events ≡ now (self .entry) .count * now (self .entry) .«event_share») × («half_hours» ≡ now (self .entry) .count * now (self .entry) .«half_hour_share»)) ⌝ }
     {
         let count = self.station_count();
         if events == count * self.event_share && half_hours == count * self.half_hour_share {
@@ -79,6 +80,7 @@ impl Line {
     ) -> Result<(), Refusal>
         ensures asked { λ r. ⌜ r ≡ receiving-asked (line-view (now (self .entry))) pages events «half_hours» room ⌝ }
         ensures enough { λ r. ⌜ made r (λ _. (now (self .entry) .count ≤ pages) × (567 ≤ room)) ⌝ }
+        ensures fit { λ r. ⌜ made r (λ _. (events ≡ now (self .entry) .count * now (self .entry) .«event_share») × («half_hours» ≡ now (self .entry) .count * now (self .entry) .«half_hour_share»)) ⌝ }
     {
         self.enrolled_asked()?;
         self.pages_present_asked(pages)?;
@@ -91,13 +93,17 @@ impl Line {
         &mut self,
         signal: Signal,
         memory: &M,
+        events: &[Event],
+        half_hours: &[HalfHour],
         answer: &mut [u8],
     ) -> Reception
         requires paged { ⌜ now self .count ≤ length (pages (now memory)) ⌝ }
+        requires events_fit { ⌜ length (now events) ≡ now self .count * now self .«event_share» ⌝ }
+        requires half_hours_fit { ⌜ length (now «half_hours») ≡ now self .count * now self .«half_hour_share» ⌝ }
         requires room { ⌜ 567 ≤ length (now answer) ⌝ }
-        ensures told { λ r. ⌜ r ≡ reception-of (heard (line-view (now (self .entry))) signal (pages (now (memory .entry))) (now (answer .entry)) .told) ⌝ }
+        ensures told { λ r. ⌜ r ≡ reception-of (heard (line-view (now (self .entry))) signal (loan (pages (now (memory .entry))) (now (events .entry)) (now («half_hours» .entry))) (now (answer .entry)) .told) ⌝ }
         ensures line { λ _. ⌜ line-view (now (self .exit)) ≡ with-link (line-view (now (self .entry))) (step (line-view (now (self .entry)) .link) signal .next) ⌝ }
-        ensures answer { λ _. ⌜ now (answer .exit) ≡ heard (line-view (now (self .entry))) signal (pages (now (memory .entry))) (now (answer .entry)) .answer ⌝ }
+        ensures answer { λ _. ⌜ now (answer .exit) ≡ heard (line-view (now (self .entry))) signal (loan (pages (now (memory .entry))) (now (events .entry)) (now («half_hours» .entry))) (now (answer .entry)) .answer ⌝ }
     {
         reception(follow(
             &mut self.receiver,
@@ -105,6 +111,10 @@ impl Line {
             &self.stations,
             self.count,
             memory,
+            events,
+            self.event_share,
+            half_hours,
+            self.half_hour_share,
             answer,
         ))
     }
@@ -118,9 +128,9 @@ impl Line {
         half_hours: &mut [HalfHour],
         answer: &mut [u8],
     ) -> Result<Reception, Refusal>
-        ensures result { λ r. ⌜ r ≡ reception-after (line-view (now (self .entry))) signal (pages (now (memory .entry))) (length (now (events .entry))) (length (now («half_hours» .entry))) (now (answer .entry)) ⌝ }
-        ensures line { λ _. ⌜ line-view (now (self .exit)) ≡ line-after (line-view (now (self .entry))) signal (pages (now (memory .entry))) (length (now (events .entry))) (length (now («half_hours» .entry))) (now (answer .entry)) ⌝ }
-        ensures answer { λ _. ⌜ now (answer .exit) ≡ answer-after (line-view (now (self .entry))) signal (pages (now (memory .entry))) (length (now (events .entry))) (length (now («half_hours» .entry))) (now (answer .entry)) ⌝ }
+        ensures result { λ r. ⌜ r ≡ reception-after (line-view (now (self .entry))) signal (loan (pages (now (memory .entry))) (now (events .entry)) (now («half_hours» .entry))) (now (answer .entry)) ⌝ }
+        ensures line { λ _. ⌜ line-view (now (self .exit)) ≡ line-after (line-view (now (self .entry))) signal (loan (pages (now (memory .entry))) (now (events .entry)) (now («half_hours» .entry))) (now (answer .entry)) ⌝ }
+        ensures answer { λ _. ⌜ now (answer .exit) ≡ answer-after (line-view (now (self .entry))) signal (loan (pages (now (memory .entry))) (now (events .entry)) (now («half_hours» .entry))) (now (answer .entry)) ⌝ }
         ensures pages { λ _. ⌜ pages (now (memory .exit)) ≡ pages (now (memory .entry)) ⌝ }
         ensures events { λ _. ⌜ now (events .exit) ≡ now (events .entry) ⌝ }
         ensures half_hours { λ _. ⌜ now («half_hours» .exit) ≡ now («half_hours» .entry) ⌝ }
@@ -131,6 +141,6 @@ impl Line {
             half_hours.len(),
             answer.len(),
         )?;
-        Ok(self.hear(signal, memory, answer))
+        Ok(self.hear(signal, memory, events, half_hours, answer))
     }
 }

@@ -1,4 +1,8 @@
 // What each octet of standard input says.
+ghost use mathlib.Core.Path.{_≡_};
+ghost use Rattle.std.specs.Results.{mapped};
+ghost use Rattle.octet_text.specs.Reading.{reading-of, start, step, read-one, finished};
+ghost use Rattle.linebox.specs.Inputs.{taken, ended};
 use octet_text::fault::TextFault;
 use octet_text::reader::HexReader;
 
@@ -10,7 +14,10 @@ pub(crate) struct Input {
 }
 
 impl Input {
-    pub(crate) fn new(hex: bool) -> Input {
+    pub(crate) fn new(hex: bool) -> Input
+        ensures kind { λ r. ⌜ r .hex ≡ hex ⌝ }
+        ensures begins { λ r. ⌜ reading-of (r .reader) ≡ start ⌝ }
+    {
         Input {
             hex,
             reader: HexReader::new(),
@@ -18,7 +25,10 @@ impl Input {
     }
 
     // The received octet that one octet of the input brings, if any.
-    pub(crate) fn take(&mut self, character: u8) -> Result<Option<u8>, TextFault> {
+    pub(crate) fn take(&mut self, character: u8) -> Result<Option<u8>, TextFault>
+        ensures kind { λ _. ⌜ now (self .exit) .hex ≡ now (self .entry) .hex ⌝ }
+        ensures value { λ r. ⌜ mapped (step (reading-of (now (self .exit) .reader))) (λ f. f) r ≡ taken (now (self .entry) .hex) (reading-of (now (self .entry) .reader)) character ⌝ }
+    {
         if self.hex {
             self.reader.read(character)
         } else {
@@ -27,7 +37,9 @@ impl Input {
     }
 
     // Whether the input may end here.
-    pub(crate) fn finish(&self) -> Result<(), TextFault> {
+    pub(crate) fn finish(&self) -> Result<(), TextFault>
+        ensures { λ r. ⌜ r ≡ ended (now (self .entry) .hex) (reading-of (now (self .entry) .reader)) ⌝ }
+    {
         if self.hex {
             self.reader.finish()
         } else {

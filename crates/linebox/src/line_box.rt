@@ -1,4 +1,8 @@
 // Two stations, with their books and a buffer for answers. Their memory is lent to each call.
+ghost use mathlib.Core.Path.{_≡_};
+ghost use Rattle.std.specs.Vec.{made};
+ghost use Rattle.line.specs.Lines.{line-view};
+ghost use Rattle.linebox.specs.Enrolled.{two-stations};
 use calendar::date_time::DateTime;
 use command::event::Event;
 use command::event_kind::EventKind;
@@ -31,7 +35,9 @@ pub(crate) struct LineBox {
 
 impl LineBox {
     // The line with its two stations enrolled.
-    pub(crate) fn new(memory: &mut WorkingMemory<'_>) -> Result<LineBox, Refusal> {
+    pub(crate) fn new(memory: &mut WorkingMemory<'_>) -> Result<LineBox, Refusal>
+        ensures { λ r. ⌜ made r (λ b. line-view (b .line) ≡ two-stations) ⌝ }
+    {
         let mut line = Line::new();
         let time = DateTime::first();
         let event = Event {
