@@ -5,4 +5,6 @@ mod digits;
 mod half_hours;
 mod making;
 mod stepping;
+#[cfg(test)]
+mod tests;
 pub mod time_fault;
