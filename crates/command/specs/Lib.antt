@@ -10,3 +10,5 @@ pub mod History
 pub mod Readings
 pub mod Gathered
 pub mod Replies
+pub mod HalfHours
+pub mod Slots

@@ -21,6 +21,7 @@ use Rattle.command.specs.Table.{contract-octet}
 use Rattle.command.specs.Questions.{then, start-count-of}
 use Rattle.command.specs.Stations.{Holding}
 use Rattle.command.specs.History.{history-reading}
+use Rattle.command.specs.HalfHours.{half-hours-reading}
 
 -- count points from start on, of so many that are listed: points count from 1; none, or one not listed, is a fault
 abbrev pub picked : ℕ → ℕ → ℕ → Result Chosen Fault
@@ -101,5 +102,5 @@ content-for ReadPresent content h = reading content (present (h .station .demand
 content-for ReadEvents content h = history-reading content (h .station .events) (h .events)
 content-for ReadContract content h = contract-reading content (h .page)
 content-for Reset content h = not-yet-built
-content-for ReadHalfHours content h = not-yet-built
+content-for ReadHalfHours content h = half-hours-reading content (h .station .half-hours) (h .half-hours)
 content-for WriteSettings content h = not-yet-built

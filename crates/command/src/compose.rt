@@ -12,6 +12,7 @@ use crate::fault::Fault;
 use crate::gather::show_points;
 use crate::gather::show_text;
 use crate::half_hour::HalfHour;
+use crate::half_hours::read_half_hours;
 use crate::history::read_events;
 use crate::known::Command;
 use crate::point::Point;
@@ -53,7 +54,8 @@ pub(crate) fn content_for(
     events: &[Event],
     half_hours: &[HalfHour],
 ) -> Result<Content, Fault>
-    requires { ⌜ length (now events) ≡ station-view (now station) .events .capacity ⌝ }
+    requires events { ⌜ length (now events) ≡ station-view (now station) .events .capacity ⌝ }
+    requires half_hours { ⌜ length (now «half_hours») ≡ station-view (now station) .half-hours .capacity ⌝ }
     ensures { λ r. ⌜ gathered-in r ≡ content-for command (now (content .entry)) (holding (station-view (now (station .entry))) (now (page .entry)) (now (events .entry)) (now («half_hours» .entry))) ⌝ }
 {
     match command {
@@ -62,6 +64,7 @@ pub(crate) fn content_for(
         Command::ReadPresent => read_listed(content, &present_of(station, page)),
         Command::ReadEvents => read_events(content, &station.events, events),
         Command::ReadContract => read_contract(content, page),
-        Command::Reset | Command::ReadHalfHours | Command::WriteSettings => Err(Fault::NotYetBuilt),
+        Command::ReadHalfHours => read_half_hours(content, &station.half_hours, half_hours),
+        Command::Reset | Command::WriteSettings => Err(Fault::NotYetBuilt),
     }
 }

@@ -9,6 +9,7 @@ pub mod fault;
 mod field;
 mod gather;
 pub mod half_hour;
+mod half_hours;
 mod history;
 pub mod known;
 mod point;

@@ -54,7 +54,8 @@ fn compose(
     events: &[Event],
     half_hours: &[HalfHour],
 ) -> Result<Composed, Fault>
-    requires { ⌜ length (now events) ≡ station-view (now station) .events .capacity ⌝ }
+    requires events { ⌜ length (now events) ≡ station-view (now station) .events .capacity ⌝ }
+    requires half_hours { ⌜ length (now «half_hours») ≡ station-view (now station) .half-hours .capacity ⌝ }
     ensures { λ r. ⌜ composed-of r ≡ replied (asking (now (request .entry))) (holding (station-view (now (station .entry))) (now (page .entry)) (now (events .entry)) (now («half_hours» .entry))) ⌝ }
 {
     let command = Command::read(request.command)?;
