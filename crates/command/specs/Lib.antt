@@ -7,8 +7,16 @@ pub mod Decimals
 pub mod Questions
 pub mod Windows
 pub mod History
+pub mod Resets
 pub mod Readings
 pub mod Gathered
 pub mod Replies
 pub mod HalfHours
 pub mod Slots
+pub mod Stages
+pub mod Parts
+pub mod Ratios
+pub mod Fields
+pub mod Bulk
+pub mod Merged
+pub mod Shown

@@ -19,6 +19,7 @@ use Rattle.command.specs.declared.point.Point.the-variants.{Number, Blank}
 use Rattle.command.specs.declared.points.Chosen.{Chosen}
 use Rattle.command.specs.Table.{contract-octet}
 use Rattle.command.specs.Questions.{then, start-count-of}
+use Rattle.command.specs.Resets.{reset-of}
 use Rattle.command.specs.Stations.{Holding}
 use Rattle.command.specs.History.{history-reading}
 use Rattle.command.specs.HalfHours.{half-hours-reading}
@@ -101,6 +102,6 @@ content-for ReadTimers content h = reading content (timers (h .page))
 content-for ReadPresent content h = reading content (present (h .station .demand) (h .station .predicted) (h .page))
 content-for ReadEvents content h = history-reading content (h .station .events) (h .events)
 content-for ReadContract content h = contract-reading content (h .page)
-content-for Reset content h = not-yet-built
+content-for Reset content h = then (reset-of content) (λ r. Ok [])
 content-for ReadHalfHours content h = half-hours-reading content (h .station .half-hours) (h .half-hours)
 content-for WriteSettings content h = not-yet-built

@@ -20,6 +20,7 @@ use crate::points::limits_of;
 use crate::points::present_of;
 use crate::points::read_points;
 use crate::points::timers_of;
+use crate::reset::read_reset;
 use crate::settings::CONTRACT_NUMBER;
 use crate::settings::Page;
 use crate::station::Station;
@@ -65,6 +66,10 @@ pub(crate) fn content_for(
         Command::ReadEvents => read_events(content, &station.events, events),
         Command::ReadContract => read_contract(content, page),
         Command::ReadHalfHours => read_half_hours(content, &station.half_hours, half_hours),
-        Command::Reset | Command::WriteSettings => Err(Fault::NotYetBuilt),
+        Command::Reset => {
+            read_reset(content)?;
+            Ok(Content::new())
+        }
+        Command::WriteSettings => Err(Fault::NotYetBuilt),
     }
 }

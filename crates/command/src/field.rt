@@ -12,7 +12,7 @@ const START_POSITION: u8 = 8;
 const COUNT_POSITION: u8 = 10;
 
 // The number of two digits in a field.
-fn number_at(position: u8, high: u8, low: u8) -> Result<u8, Fault>
+pub(crate) fn number_at(position: u8, high: u8, low: u8) -> Result<u8, Fault>
     ensures { λ r. ⌜ r ≡ number-at position high low ⌝ }
 {
     match digits::octet(high, low) {

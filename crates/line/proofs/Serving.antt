@@ -6,11 +6,11 @@ use mathlib.Core.List.{List, [], _∷_, _++_}
 use Prim.Native.Nat.{ℕ, _+_, _-_, _*_, _<_, _≤_, min}
 use native.Mathlib.Nat.{add-mul}
 use native.Mathlib.Omega.{arith}
-use lib.Dec.{ltb}
-use lib.ListN.{length, getD, take, drop}
+use lib.Dec.{ltb, leb}
+use lib.ListN.{length, getD, take, drop, set}
 use Rattle.std.proofs.shelf.Lists.{length-append, length-take, length-drop}
 use Rattle.std.proofs.shelf.Bits.{mul-le}
-use Rattle.std.proofs.shelf.Tests.{cases-bool, cond-true, cond-false, lt-ltb, eq-eqb, and-from}
+use Rattle.std.proofs.shelf.Tests.{cases-bool, cond-true, cond-false, lt-ltb, le-leb, eq-eqb, and-from}
 use Rattle.std.specs.declared.option.Option.{Option}
 use Rattle.std.specs.declared.option.Option.the-variants.{Some, None}
 use Rattle.std.specs.declared.result.Result.{Result}
@@ -27,13 +27,13 @@ use Rattle.command.specs.declared.half_hour.HalfHour.{HalfHour}
 use Rattle.command.specs.declared.known.Command.{Command}
 use Rattle.command.specs.declared.respond.Reply.{Reply}
 use Rattle.command.specs.declared.respond.Unanswered.{Unanswered}
-use Rattle.command.specs.declared.respond.Unanswered.the-variants.{WrongShare}
+use Rattle.command.specs.declared.respond.Unanswered.the-variants.{WrongShare, NoRoom as no-room}
 use Rattle.command.specs.Stations.{StationView, Holding, holding}
 use Rattle.command.specs.Commands.{command-of, answer-code}
 use Rattle.command.specs.Questions.{then}
 use Rattle.command.specs.Readings.{content-for}
-use Rattle.command.specs.Replies.{Saying, saying, said, fault-in, replied, told-with, told, shares-fit, held-by, responded, answer-left}
-use Rattle.line.specs.Receiving.{place-of, nobody, Lent, held-at, Outcome, outcome, octets-of, spoken, served, dispatched}
+use Rattle.command.specs.Replies.{Saying, saying, said, fault-in, replied, left-of, told-with, told, shares-fit, held-by, responded, answer-left}
+use Rattle.line.specs.Receiving.{place-of, nobody, Lent, held-at, Outcome, outcome, octets-of, told-of, fronted-by, served, dispatched}
 
 clash : {X : Type 0} → _≡_ {A = ℕ} 0 1 → X
 clash z = absurd (let no-way : ⊥ = omega arith in no-way)
@@ -81,17 +81,14 @@ module _ (a : Asked) (r : Result Saying CommandFault) (reply : Reply) (buffer ou
   counted-is : length octets ≡ 11 + length (said r .content)
   counted-is = length-answer (a .address) (said r .code) (said r .content) four two
 
-  reply-is : reply ≡ record { length = length octets; fault = fault-in r }
+  pub reply-is : reply ≡ record { length = length octets; fault = fault-in r }
   reply-is =
       let e : Ok reply ≡ told-with (fault-in r) (Ok (11 + length (said r .content))) = tells ∙ ap (told-with (fault-in r)) (cond-true _ _ _ roomy) in
       let f : reply ≡ record { length = 11 + length (said r .content); fault = fault-in r } = cc in
       f ∙ ap (λ n. record { length = n; fault = fault-in r }) (sym counted-is)
 
-  out-is : out ≡ octets ++ drop (length octets) buffer
+  pub out-is : out ≡ fronted-by octets buffer
   out-is = wrote ∙ cond-true _ _ _ roomy ∙ ap (λ n. octets ++ drop n buffer) (sym counted-is)
-
-  pub spoken-is : outcome (Ok (Some reply)) out ≡ spoken octets r buffer
-  spoken-is = ap (λ x. outcome (Ok (Some x)) out) reply-is ∙ ap (outcome (Ok (Some (record { length = length octets; fault = fault-in r })))) out-is
 
 -- the k-th of n parts of c
 pub part-in : (k n c len : ℕ) → k < n → len ≡ n * c → k * c + c ≤ len
@@ -113,22 +110,33 @@ module _ (x : Lent) (s : StationView) (n k : ℕ)
       (eq-eqb _ _ (ap length e ∙ length-share k n (x .event-share) (x .events) among events-fit ∙ sym events-sized))
       (eq-eqb _ _ (ap length h ∙ length-share k n (x .half-hour-share) (x .half-hours) among half-hours-fit ∙ sym half-hours-sized))
 
-  pub held-is : (events : List Event) (half-hours : List HalfHour) → events ≡ share (x .event-share) k (x .events) → half-hours ≡ share (x .half-hour-share) k (x .half-hours) → s ≡ getD (x .stations) k nobody → k < length (x .pages) → held-by s events half-hours (loaded (x .pages) k) ≡ Ok (held-at x k)
-  held-is events half-hours e h here within =
-      ap (held-by s events half-hours) (cond-true _ _ _ (lt-ltb k (length (x .pages)) within))
-      ∙ cond-true (shares-fit s events half-hours) (Ok (holding s (getD (x .pages) k []) events half-hours)) (Err WrongShare) (fit-is events half-hours e h)
+  pub held-is : (events : List Event) (half-hours : List HalfHour) → events ≡ share (x .event-share) k (x .events) → half-hours ≡ share (x .half-hour-share) k (x .half-hours) → s ≡ getD (x .stations) k nobody → k < length (x .pages) → (n : ℕ) → 567 ≤ n → held-by s events half-hours (loaded (x .pages) k) n ≡ Ok (held-at x k)
+  held-is events half-hours e h here within n wide =
+      ap (λ l. held-by s events half-hours l n) (cond-true _ _ _ (lt-ltb k (length (x .pages)) within))
+      ∙ cond-true (shares-fit s events half-hours) (cond (leb 567 n) (Ok (holding s (getD (x .pages) k []) events half-hours)) (Err no-room)) (Err WrongShare) (fit-is events half-hours e h)
+      ∙ cond-true (leb 567 n) (Ok (holding s (getD (x .pages) k []) events half-hours)) (Err no-room) (le-leb 567 n wide)
       ∙ ap (λ t. Ok (holding t (getD (x .pages) k []) events half-hours)) here
       ∙ ap (λ t. Ok (holding (getD (x .stations) k nobody) (getD (x .pages) k []) t half-hours)) e
       ∙ ap (λ t. Ok (holding (getD (x .stations) k nobody) (getD (x .pages) k []) (share (x .event-share) k (x .events)) t)) h
 
--- what the station at a place answered
-pub served-is : (a : Asked) (x : Lent) (k : ℕ) (xs : List ℕ) (reply : Reply) (buffer out : List ℕ) (held : Result Holding Unanswered)
-    → Ok a ≡ opened xs → Ok k ≡ place-of (a .named) (x .stations) → held ≡ Ok (held-at x k)
-    → Ok reply ≡ responded a held (length buffer) → out ≡ answer-left a held buffer
-    → outcome (Ok (Some reply)) out ≡ dispatched x buffer (opened xs)
-served-is a x k xs reply buffer out held asked place has tells wrote =
-    spoken-is a (replied a (held-at x k)) reply buffer out (address-four xs a asked) (code-two a (held-at x k))
-    (tells ∙ ap (λ p. responded a p (length buffer)) has)
-    (wrote ∙ ap (λ p. answer-left a p buffer) has)
-    ∙ ap (served a x buffer) place
-    ∙ ap (dispatched x buffer) asked
+-- what the station at a place answered, and what it left
+module _ (a : Asked) (x : Lent) (k : ℕ) (xs : List ℕ) (reply : Reply) (buffer out : List ℕ) (held : Result Holding Unanswered)
+    (asked : Ok a ≡ opened xs) (place : Ok k ≡ place-of (a .named) (x .stations)) (has : held ≡ Ok (held-at x k))
+    (tells : Ok reply ≡ responded a held (length buffer)) (wrote : out ≡ answer-left a held buffer) where
+  abbrev answer : Result Saying CommandFault
+  answer = replied a (held-at x k)
+
+  tells-is : Ok reply ≡ told (length buffer) answer
+  tells-is = tells ∙ ap (λ p. responded a p (length buffer)) has
+
+  wrote-is : out ≡ fronted (a .address) (said answer .code) (said answer .content) buffer
+  wrote-is = wrote ∙ ap (λ p. answer-left a p buffer) has
+
+  pub served-is : (stations : List StationView) (pages : List (List ℕ)) → stations ≡ set (x .stations) k (left-of a (held-at x k) .station) → pages ≡ set (x .pages) k (left-of a (held-at x k) .page) → outcome (Ok (Some reply)) out stations pages ≡ dispatched x buffer (opened xs)
+  served-is stations pages e f =
+      ap (λ r. outcome (Ok (Some r)) out stations pages) (reply-is a answer reply buffer out (address-four xs a asked) (code-two a (held-at x k)) tells-is wrote-is)
+      ∙ ap (λ o. outcome (told-of (octets-of a (said answer)) answer) o stations pages) (out-is a answer reply buffer out (address-four xs a asked) (code-two a (held-at x k)) tells-is wrote-is)
+      ∙ ap (λ t. outcome (told-of (octets-of a (said answer)) answer) (fronted-by (octets-of a (said answer)) buffer) t pages) e
+      ∙ ap (λ t. outcome (told-of (octets-of a (said answer)) answer) (fronted-by (octets-of a (said answer)) buffer) (set (x .stations) k (left-of a (held-at x k) .station)) t) f
+      ∙ ap (served a x buffer) place
+      ∙ ap (dispatched x buffer) asked

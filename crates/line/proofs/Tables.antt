@@ -4,9 +4,9 @@ use mathlib.Core.List.{List, [], _∷_, _++_, map}
 use Prim.Native.Nat.{ℕ, _+_, _-_, _<_, _≤_}
 use native.Mathlib.Omega.{arith}
 use lib.ListN.{length, getD, set, take, drop, replicate}
-use Rattle.std.proofs.shelf.Lists.{take-more-set, take-all, map-more, map-push, map-set, length-map, length-take, length-take-le, length-drop, length-append, set-getD, getD-replicate, getD-default, getD-take, take-map}
+use Rattle.std.proofs.shelf.Lists.{take-more-set, take-all, map-more, map-push, map-set, length-map, length-take, length-take-le, length-drop, length-append, set-getD, getD-replicate, getD-default, getD-take, getD-map, take-map, map-append, take-append-drop, take-append-le}
 use native.Mathlib.Nat.{sub-zero}
-use borrow.Rule.Slice.PartMut.{midOf}
+use borrow.Rule.Slice.PartMut.{midOf, postOf}
 use Rattle.std.proofs.shelf.Edits.{map-over-more}
 use Rattle.frame.specs.declared.station_number.StationNumber.{StationNumber}
 use Rattle.command.specs.declared.station.Station.{Station}
@@ -81,3 +81,24 @@ sized-lent f n c ss h e k l =
     ∙ getD-take n (map f ss) k 0 few
     ∙ ap (λ (t : List ℕ). getD t k 0) e
     ∙ alike-at c k (omega arith)
+
+-- a station replaced by one whose share is as large
+pub shares-set : (f : Station → ℕ) (ss : List Station) (k : ℕ) (s t : Station) → k < length ss → f t ≡ f (getD ss k s) → map f (set ss k t) ≡ map f ss
+shares-set f ss k s t h e =
+    map-set f ss k t ∙ ap (λ x. set (map f ss) k x) (e ∙ sym (getD-map f ss k s 0 h)) ∙ set-getD (map f ss) k 0
+
+-- the first n stations of a table, as they come back with shares of the same sizes
+module _ (f : Station → ℕ) (n c : ℕ) (ss ys : List Station) (few : n ≤ 32) (sized : map f ss ≡ alike c) (same : map f ys ≡ map f (midOf 0 (n - 0) ss)) where
+  pub length-back : length ys ≡ n
+  length-back = sym (length-map ys f) ∙ ap length same ∙ length-map (midOf 0 (n - 0) ss) f ∙ length-lent f n c ss few sized
+
+  pub views-back : views-of (take n (ys ++ postOf 0 (n - 0) ss)) ≡ views-of ys
+  views-back = ap views-of (take-append-le n ys (postOf 0 (n - 0) ss) (omega (arith, length-back)) ∙ take-all n ys (omega (arith, length-back)))
+
+  pub shares-kept : map f (ys ++ postOf 0 (n - 0) ss) ≡ alike c
+  shares-kept =
+      map-append f ys (postOf 0 (n - 0) ss)
+      ∙ ap (λ t. t ++ map f (postOf 0 (n - 0) ss)) same
+      ∙ sym (map-append f (midOf 0 (n - 0) ss) (postOf 0 (n - 0) ss))
+      ∙ ap (map f) (take-append-drop (n - 0) ss)
+      ∙ sized

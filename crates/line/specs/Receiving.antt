@@ -3,7 +3,7 @@ use mathlib.Core.Bool.{cond, _&&_}
 use mathlib.Core.List.{List, [], _∷_, _++_}
 use Prim.Native.Nat.{ℕ, _+_, _*_}
 use lib.Dec.{eqb, ltb}
-use lib.ListN.{length, getD, drop}
+use lib.ListN.{length, getD, drop, set}
 use Rattle.std.specs.declared.option.Option.{Option}
 use Rattle.std.specs.declared.option.Option.the-variants.{Some, None}
 use Rattle.std.specs.declared.result.Result.{Result}
@@ -21,7 +21,7 @@ use Rattle.book.specs.Ranked.{share, empty}
 use Rattle.command.specs.declared.event.Event.{Event}
 use Rattle.command.specs.declared.half_hour.HalfHour.{HalfHour}
 use Rattle.command.specs.Stations.{StationView, as-enrolled, Holding, holding}
-use Rattle.command.specs.Replies.{Saying, said, fault-in, replied}
+use Rattle.command.specs.Replies.{Saying, said, fault-in, replied, left-of}
 use Rattle.line.specs.declared.reception.Reception.{Reception}
 use Rattle.line.specs.declared.reception.Reception.the-variants.{Nothing, Dropped, Answered}
 use Rattle.line.specs.declared.refusal.Refusal.{Refusal}
@@ -70,21 +70,27 @@ place-of None ss = Err UnknownStation
 abbrev pub nobody : StationView
 nobody = as-enrolled 0 (empty 1) (empty 1)
 
--- what is told of a frame, and how the buffer is left
+-- what is told of a frame, and how buffer, stations and memory are left
 pub record Outcome : Type 0 where
   pub told : Result (Option Reply) Fault
   pub answer : List ℕ
+  pub stations : List StationView
+  pub pages : List (List ℕ)
 
-abbrev pub outcome : Result (Option Reply) Fault → List ℕ → Outcome
-outcome t buffer = record { told = t; answer = buffer }
+abbrev pub outcome : Result (Option Reply) Fault → List ℕ → List StationView → List (List ℕ) → Outcome
+outcome t buffer stations pages = record { told = t; answer = buffer; stations = stations; pages = pages }
 
 -- the octets of an answer
 abbrev pub octets-of : Asked → Saying → List ℕ
 octets-of a s = answer-of (a .address) (s .code) (s .content)
 
--- an answer is told by its length and its fault, and stands at the front of the buffer; all else of the buffer stays
-abbrev pub spoken : List ℕ → Result Saying CommandFault → List ℕ → Outcome
-spoken octets r buffer = outcome (Ok (Some (record { length = length octets; fault = fault-in r }))) (octets ++ drop (length octets) buffer)
+-- an answer is told by its length and its fault
+abbrev pub told-of : List ℕ → Result Saying CommandFault → Result (Option Reply) Fault
+told-of octets r = Ok (Some (record { length = length octets; fault = fault-in r }))
+
+-- it stands at the front of the buffer; all else of the buffer stays
+abbrev pub fronted-by : List ℕ → List ℕ → List ℕ
+fronted-by octets buffer = octets ++ drop (length octets) buffer
 
 -- the stations of a line, and all that is lent to them: the memory's pages and both books, with the sizes of their shares
 pub record Lent : Type 0 where
@@ -99,21 +105,32 @@ pub record Lent : Type 0 where
 abbrev pub held-at : Lent → ℕ → Holding
 held-at x k = holding (getD (x .stations) k nobody) (getD (x .pages) k []) (share (x .event-share) k (x .events)) (share (x .half-hour-share) k (x .half-hours))
 
--- the station at a place answers by what it holds
+-- nothing but a fault, or nothing at all, is told: all stays
+abbrev pub silent : Result (Option Reply) Fault → Lent → List ℕ → Outcome
+silent t x buffer = outcome t buffer (x .stations) (x .pages)
+
+-- the station at place k answers by what it holds, and of that only its own is left otherwise
+abbrev pub answered-at : Asked → Lent → List ℕ → ℕ → Outcome
+answered-at a x buffer k =
+    outcome (told-of (octets-of a (said (replied a (held-at x k)))) (replied a (held-at x k)))
+    (fronted-by (octets-of a (said (replied a (held-at x k)))) buffer)
+    (set (x .stations) k (left-of a (held-at x k) .station))
+    (set (x .pages) k (left-of a (held-at x k) .page))
+
 abbrev pub served : Asked → Lent → List ℕ → Result ℕ Fault → Outcome
-served a x buffer (Ok k) = spoken (octets-of a (said (replied a (held-at x k)))) (replied a (held-at x k)) buffer
-served a x buffer (Err e) = outcome (Err e) buffer
+served a x buffer (Ok k) = answered-at a x buffer k
+served a x buffer (Err e) = silent (Err e) x buffer
 
 -- a frame that was taken apart
 abbrev pub dispatched : Lent → List ℕ → Result Asked Fault → Outcome
 dispatched x buffer (Ok a) = served a x buffer (place-of (a .named) (x .stations))
-dispatched x buffer (Err e) = outcome (Err e) buffer
+dispatched x buffer (Err e) = silent (Err e) x buffer
 
 -- what reception told: nothing yet, a whole frame, or a fault
 abbrev pub followed : Lent → List ℕ → Told → Outcome
-followed x buffer (Ok None) = outcome (Ok None) buffer
+followed x buffer (Ok None) = silent (Ok None) x buffer
 followed x buffer (Ok (Some xs)) = dispatched x buffer (opened xs)
-followed x buffer (Err e) = outcome (Err e) buffer
+followed x buffer (Err e) = silent (Err e) x buffer
 
 abbrev pub reception-of : Result (Option Reply) Fault → Reception
 reception-of (Ok None) = Nothing
@@ -143,8 +160,12 @@ lent-to l x = record {
 abbrev pub heard : LineView → Signal → Loan → List ℕ → Outcome
 heard l s x buffer = followed (lent-to l x) buffer (step (l .link) s .told)
 
-abbrev pub with-link : LineView → Link → LineView
-with-link l k = record { link = k; stations = l .stations; event-share = l .event-share; half-hour-share = l .half-hour-share }
+abbrev pub with-stations : LineView → Link → List StationView → LineView
+with-stations l k ss = record { link = k; stations = ss; event-share = l .event-share; half-hour-share = l .half-hour-share }
+
+-- the line afterwards
+abbrev pub line-heard : LineView → Signal → Loan → List ℕ → LineView
+line-heard l s x buffer = with-stations l (step (l .link) s .next) (heard l s x buffer .stations)
 
 -- the questions of receiving, of what is lent
 abbrev pub asked-of : LineView → Loan → List ℕ → Verdict
@@ -159,7 +180,10 @@ abbrev pub reception-after : LineView → Signal → Loan → List ℕ → Resul
 reception-after l s x buffer = told-after (asked-of l x buffer) (reception-of (heard l s x buffer .told))
 
 abbrev pub line-after : LineView → Signal → Loan → List ℕ → LineView
-line-after l s x buffer = after (asked-of l x buffer) l (with-link l (step (l .link) s .next))
+line-after l s x buffer = after (asked-of l x buffer) l (line-heard l s x buffer)
 
 abbrev pub answer-after : LineView → Signal → Loan → List ℕ → List ℕ
 answer-after l s x buffer = after (asked-of l x buffer) buffer (heard l s x buffer .answer)
+
+abbrev pub pages-after : LineView → Signal → Loan → List ℕ → List (List ℕ)
+pages-after l s x buffer = after (asked-of l x buffer) (x .pages) (heard l s x buffer .pages)

@@ -5,7 +5,7 @@ ghost use lib.ListN.{length};
 ghost use Rattle.std.specs.Vec.{made};
 ghost use Rattle.frame.specs.Reception.{step};
 ghost use Rattle.line.specs.Lines.{line-view};
-ghost use Rattle.line.specs.Receiving.{enrolled-asked, pages-present-asked, books-asked, room-asked, receiving-asked, loan, heard, reception-of, with-link, reception-after, line-after, answer-after};
+ghost use Rattle.line.specs.Receiving.{enrolled-asked, pages-present-asked, books-asked, room-asked, receiving-asked, loan, heard, reception-of, line-heard, reception-after, line-after, answer-after, pages-after};
 use crate::line::Line;
 use crate::reception::Reception;
 use crate::refusal::Refusal;
@@ -92,7 +92,7 @@ impl Line {
     fn hear<M: SettingsMemory>(
         &mut self,
         signal: Signal,
-        memory: &M,
+        memory: &mut M,
         events: &[Event],
         half_hours: &[HalfHour],
         answer: &mut [u8],
@@ -102,14 +102,14 @@ impl Line {
         requires half_hours_fit { ⌜ length (now «half_hours») ≡ now self .count * now self .«half_hour_share» ⌝ }
         requires room { ⌜ 567 ≤ length (now answer) ⌝ }
         ensures told { λ r. ⌜ r ≡ reception-of (heard (line-view (now (self .entry))) signal (loan (pages (now (memory .entry))) (now (events .entry)) (now («half_hours» .entry))) (now (answer .entry)) .told) ⌝ }
-        ensures line { λ _. ⌜ line-view (now (self .exit)) ≡ with-link (line-view (now (self .entry))) (step (line-view (now (self .entry)) .link) signal .next) ⌝ }
+        ensures line { λ _. ⌜ line-view (now (self .exit)) ≡ line-heard (line-view (now (self .entry))) signal (loan (pages (now (memory .entry))) (now (events .entry)) (now («half_hours» .entry))) (now (answer .entry)) ⌝ }
+        ensures pages { λ _. ⌜ pages (now (memory .exit)) ≡ heard (line-view (now (self .entry))) signal (loan (pages (now (memory .entry))) (now (events .entry)) (now («half_hours» .entry))) (now (answer .entry)) .pages ⌝ }
         ensures answer { λ _. ⌜ now (answer .exit) ≡ heard (line-view (now (self .entry))) signal (loan (pages (now (memory .entry))) (now (events .entry)) (now («half_hours» .entry))) (now (answer .entry)) .answer ⌝ }
     {
         reception(follow(
             &mut self.receiver,
             signal,
-            &self.stations,
-            self.count,
+            &mut self.stations[0..self.count],
             memory,
             events,
             self.event_share,
@@ -131,7 +131,7 @@ impl Line {
         ensures result { λ r. ⌜ r ≡ reception-after (line-view (now (self .entry))) signal (loan (pages (now (memory .entry))) (now (events .entry)) (now («half_hours» .entry))) (now (answer .entry)) ⌝ }
         ensures line { λ _. ⌜ line-view (now (self .exit)) ≡ line-after (line-view (now (self .entry))) signal (loan (pages (now (memory .entry))) (now (events .entry)) (now («half_hours» .entry))) (now (answer .entry)) ⌝ }
         ensures answer { λ _. ⌜ now (answer .exit) ≡ answer-after (line-view (now (self .entry))) signal (loan (pages (now (memory .entry))) (now (events .entry)) (now («half_hours» .entry))) (now (answer .entry)) ⌝ }
-        ensures pages { λ _. ⌜ pages (now (memory .exit)) ≡ pages (now (memory .entry)) ⌝ }
+        ensures pages { λ _. ⌜ pages (now (memory .exit)) ≡ pages-after (line-view (now (self .entry))) signal (loan (pages (now (memory .entry))) (now (events .entry)) (now («half_hours» .entry))) (now (answer .entry)) ⌝ }
         ensures events { λ _. ⌜ now (events .exit) ≡ now (events .entry) ⌝ }
         ensures half_hours { λ _. ⌜ now («half_hours» .exit) ≡ now («half_hours» .entry) ⌝ }
     {
