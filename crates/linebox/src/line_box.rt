@@ -2,7 +2,11 @@
 ghost use mathlib.Core.Path.{_≡_};
 ghost use Rattle.std.specs.Vec.{made};
 ghost use Rattle.line.specs.Lines.{line-view};
-ghost use Rattle.linebox.specs.Enrolled.{two-stations};
+ghost use Rattle.line.specs.Enrolling.{pages-asked};
+ghost use denote.Ref.{now};
+ghost use Rattle.memory.specs.Working.{by-page};
+ghost use lib.ListN.{length};
+ghost use Rattle.linebox.specs.Enrolled.{two-stations, verdict-of};
 use calendar::date_time::DateTime;
 use command::event::Event;
 use command::event_kind::EventKind;
@@ -34,9 +38,10 @@ pub(crate) struct LineBox {
 }
 
 impl LineBox {
-    // The line with its two stations enrolled.
+    // The line with its two stations enrolled, unless the memory has too few pages.
     pub(crate) fn new(memory: &mut WorkingMemory<'_>) -> Result<LineBox, Refusal>
-        ensures { λ r. ⌜ made r (λ b. line-view (b .line) ≡ two-stations) ⌝ }
+        ensures told { λ r. ⌜ verdict-of r ≡ pages-asked 2 (length (by-page (now (now (memory .entry) .cells)))) ⌝ }
+        ensures line { λ r. ⌜ made r (λ b. line-view (b .line) ≡ two-stations) ⌝ }
     {
         let mut line = Line::new();
         let time = DateTime::first();
