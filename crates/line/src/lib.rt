@@ -1,13 +1,8 @@
 // The line: up to 32 stations on one pair of wires.
 pub mod calls;
-pub mod close;
 pub mod enroll;
 mod find;
 pub mod line;
-pub mod measure;
-pub mod readers;
 pub mod reception;
-pub mod record;
 pub mod refusal;
 mod respond;
-pub mod tick;
