@@ -1,4 +1,7 @@
 // Dates and times of the years 2000 to 2099.
+
+#![tactic(auto)]
+
 mod comparing;
 pub mod date_time;
 mod digits;

@@ -1,5 +1,8 @@
 // One station: its settings, its clock and present values, its records, and the commands that it answers.
 // It knows nothing of the line and of other stations.
+
+#![tactic(auto)]
+
 mod bulk_contract;
 mod bulk_field;
 mod bulk_merge;

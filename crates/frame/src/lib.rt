@@ -1,5 +1,8 @@
 // The frame layer of the line: octets become frames, frames are taken apart, answers are written.
 // It knows nothing of settings, books, clocks or stations.
+
+#![tactic(auto)]
+
 pub mod answer;
 pub mod checksum;
 pub mod digits;

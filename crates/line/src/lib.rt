@@ -1,4 +1,7 @@
 // The line: up to 32 stations on one pair of wires.
+
+#![tactic(auto)]
+
 pub mod calls;
 pub mod enroll;
 mod find;

@@ -1,4 +1,7 @@
 // The line box as a program: two stations over working memory, polled by standard input.
+
+#![tactic(auto)]
+
 mod input;
 mod line_box;
 mod options;

@@ -1,4 +1,7 @@
 //! Settings memory: numbered pages of 28 cells, each cell a 16-bit number.
+
+#![tactic(auto)]
+
 ghost use Rattle.std.specs.Prelude.{◌≡◌, ℕ, List, length};
 ghost use Rattle.memory.specs.Model.{Paged, answered, fetched, stored};
 

@@ -6,7 +6,7 @@ use crate::{CELLS, MemoryRefusal, SettingsMemory};
 
 /// The cells of a page.
 pub fn load<M: SettingsMemory>(memory: &M, page: u16) -> Result<[u16; CELLS], MemoryRefusal>
-    ensures { result ≡ loaded (pages memory.now) page }
+    ensures { result ≡ loaded (M.pages memory.now) page }
 {
     let mut cells = [0; CELLS];
     copy_page(memory, page, &mut cells)?;
@@ -19,8 +19,8 @@ pub fn restore<M: SettingsMemory>(
     page: u16,
     cells: &[u16; CELLS],
 ) -> Result<(), MemoryRefusal>
-    ensures answer { result ≡ found (pages memory.old) page tt }
-    ensures left { pages memory.new ≡ restored (pages memory.old) page cells.now }
+    ensures answer { result ≡ found (M.pages memory.old) page tt }
+    ensures left { M.pages memory.new ≡ restored (M.pages memory.old) page cells.now }
 {
     if page >= memory.page_count() {
         return Err(MemoryRefusal::NoPage);
@@ -34,8 +34,8 @@ fn copy_page<M: SettingsMemory>(
     page: u16,
     cells: &mut [u16; CELLS],
 ) -> Result<(), MemoryRefusal>
-    ensures answer { result ≡ found (pages memory.now) page tt }
-    ensures copied { OnOk result (cells.new ≡ slice_index_or (pages memory.now) page []) }
+    ensures answer { result ≡ found (M.pages memory.now) page tt }
+    ensures copied { OnOk result (cells.new ≡ slice_index_or (M.pages memory.now) page []) }
 {
     for (cell, place) in cells.iter_mut().enumerate() {
         let value = memory.fetch(page, cell as u8)?;
@@ -46,7 +46,7 @@ fn copy_page<M: SettingsMemory>(
 
 // Where there is no such page, each storing is refused and nothing changes.
 fn store_each<M: SettingsMemory>(memory: &mut M, page: u16, cells: &[u16; CELLS])
-    ensures { pages memory.new ≡ slice_set (pages memory.old) page cells.now }
+    ensures { M.pages memory.new ≡ slice_set (M.pages memory.old) page cells.now }
 {
     for (cell, value) in cells.iter().enumerate() {
         let _ = memory.store(page, cell as u8, *value);

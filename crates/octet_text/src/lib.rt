@@ -1,4 +1,7 @@
 // Octets as text, for people: hexadecimal text is read, and lines of octets are written.
+
+#![tactic(auto)]
+
 mod digit;
 pub mod fault;
 mod hear;

@@ -10,7 +10,7 @@ pub loop-cell-preserved : goal.loop-cell-preserved
 loop-cell-preserved g c =
     let pages = g.M.SettingsMemory.pages in
     stored_more (pages c.args.memory.now) (pages c.loop-cell.memory) _ c.args.page c.args.cells.now c.loop-cell.cell _
-    (omega arith) (omega arith) c.loop-cell.invariant c.store-cell.ensures
+    (omega arith) (omega arith) c.loop-cell.invariant c.store_cell.ensures
 
 pub returns : goal.returns
 returns g c =

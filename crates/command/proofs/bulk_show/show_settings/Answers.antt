@@ -8,16 +8,16 @@ use Rattle.command.specs.Shown.{parts_shown}
 use Rattle.command.proofs.ShowSteps.{shown_more, shown_all, room_for, widths_more}
 use Rattle.command.proofs.bulk_show.show_settings.Goals as goal
 
-pub push-part-requires : goal.push-part-requires
-push-part-requires c = record {
+pub push_part-requires : goal.push_part-requires
+push_part-requires c = record {
   room = room_for c.parts-part-items.result.now c.loop-part.part-index _ c.loop-part.content.length 243 c.loop-part-test.true (omega arith) c.loop-part.invariant.1;
   lawful = All-get_or LawfulPart c.parts-part-items.result.now _ _ c.loop-part-test.true c.parts-part-items.ensures.lawful;
 }
 
 pub loop-part-preserved : goal.loop-part-preserved
 loop-part-preserved c = (
-  shown_more c.args.page.now c.parts-part-items.result.now c.loop-part.part-index _ _ _ _ c.loop-part-test.true c.loop-part.invariant.0 c.push-part.ensures.behind,
-  widths_more c.parts-part-items.result.now c.loop-part.part-index _ c.loop-part.content.length _ 243 c.loop-part-test.true c.loop-part.invariant.1 c.push-part.ensures.length,
+  shown_more c.args.page.now c.parts-part-items.result.now c.loop-part.part-index _ _ _ _ c.loop-part-test.true c.loop-part.invariant.0 c.push_part.ensures.behind,
+  widths_more c.parts-part-items.result.now c.loop-part.part-index _ c.loop-part.content.length _ 243 c.loop-part-test.true c.loop-part.invariant.1 c.push_part.ensures.length,
 )
 
 pub returns : goal.returns

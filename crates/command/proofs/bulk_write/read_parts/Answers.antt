@@ -7,23 +7,23 @@ use Rattle.command.specs.Bulk.{parts_read, all_left}
 use Rattle.command.proofs.PartSteps.{part_more}
 use Rattle.command.proofs.bulk_write.read_parts.Goals as goal
 
-pub read-part-requires : goal.read-part-requires
-read-part-requires c = record {
+pub read_part-requires : goal.read_part-requires
+read_part-requires c = record {
   long = c.requires;
   lawful = All-get_or LawfulPart c.parts-part-items.result.now _ _ c.loop-part-test.true c.parts-part-items.ensures.lawful;
 }
 
-pub returns-in-err-read-part : goal.returns-in-err-read-part
-returns-in-err-read-part c =
-    let p = err_from_is_err_and c.from-residual.result c.from-residual.ensures.1 in
+pub returns-in_err-read_part : goal.returns-in_err-read_part
+returns-in_err-read_part c =
+    let p = err_from_is_err_and c.from_residual.result c.from_residual.ensures.1 in
     rw (p.1, p.2)
-    (sym (part_more c.args.content.now c.loop-part.cells c.parts-part-items.result.now c.loop-part.part-index _ (Err _) c.loop-part-test.true c.in-err-read-part.ensures)
+    (sym (part_more c.args.content.now c.loop-part.cells c.parts-part-items.result.now c.loop-part.part-index _ (Err _) c.loop-part-test.true c.in_err-read_part.ensures)
     ∙ c.loop-part.invariant
     ∙ ap (parts_read c.args.content.now all_left) c.parts-part-items.ensures.same)
 
 pub loop-part-preserved : goal.loop-part-preserved
 loop-part-preserved c =
-    sym (part_more c.args.content.now c.loop-part.cells c.parts-part-items.result.now c.loop-part.part-index _ (Ok c.read-part.new.cells) c.loop-part-test.true c.in-ok-read-part.ensures)
+    sym (part_more c.args.content.now c.loop-part.cells c.parts-part-items.result.now c.loop-part.part-index _ (Ok c.read_part.new.cells) c.loop-part-test.true c.in_ok-read_part.ensures)
     ∙ c.loop-part.invariant
 
 pub returns : goal.returns

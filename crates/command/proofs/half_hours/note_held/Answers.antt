@@ -15,7 +15,7 @@ more rs i o old new all at e inv =
     ap (λ (t : List Slot). slots_after t (drop (i + 1) rs)) (e ∙ ap (λ (x : Option HalfHour). noted_if x old) at) ∙ after_rank i rs old ∙ inv
 
 pub loop-rank-preserved : goal.loop-rank-preserved
-loop-rank-preserved c = more _ c.loop-rank.rank _ _ _ _ c.half-hour-at.ensures c.note-if.ensures c.loop-rank.invariant
+loop-rank-preserved c = more _ c.loop-rank.rank _ _ _ _ c.half_hour_at.ensures c.note_if.ensures c.loop-rank.invariant
 
 pub returns : goal.returns
 returns c =

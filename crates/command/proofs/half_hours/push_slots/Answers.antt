@@ -15,7 +15,7 @@ more xs i x start old new h at inv e =
 
 pub loop-slot-preserved : goal.loop-slot-preserved
 loop-slot-preserved c = (
-  more c.args.slots.now c.loop-slot.slot-index c.slot-item.result _ _ _ (omega arith) c.slot-item.is c.loop-slot.invariant.0 c.push-demand.ensures.behind,
+  more c.args.slots.now c.loop-slot.slot-index c.slot-item.result _ _ _ (omega arith) c.slot-item.is c.loop-slot.invariant.0 c.push_demand.ensures.behind,
   omega arith,
 )
 

@@ -19,5 +19,5 @@ shown received none head all m rs first ss p q r s t =
 
 pub returns : goal.returns
 returns c =
-    shown c.args.received.now _ _ _ (moment_of c.args.start) (ranked (view_of c.args.ring.now) c.args.places.now) c.slots-from-slots.result c.note-held.new.slots
-    c.new-content.ensures.none c.push.ensures.behind c.push-slots.ensures c.note-held.ensures c.slots-from-slots.ensures
+    shown c.args.received.now _ _ _ (moment_of c.args.start) (ranked (view_of c.args.ring.now) c.args.places.now) c.slots_from-slots.result c.note_held.new.slots
+    c.new-content.ensures.none c.push.ensures.behind c.push_slots.ensures c.note_held.ensures c.slots_from-slots.ensures

@@ -36,5 +36,5 @@ loop-slot-preserved c =
 pub returns : goal.returns
 returns c =
     let m = moment_of c.args.start in
-    let first : ◌≡◌ {A = Option Moment} (Some (moment_of c.half-hour.result)) (half_hours_on 0 m) = ap Some c.half-hour.ensures.value in
+    let first : ◌≡◌ {A = Option Moment} (Some (moment_of c.half_hour.result)) (half_hours_on 0 m) = ap Some c.half_hour.ensures.value in
     all m c.loop-slot.slot-index c.loop-slot.slot-items (omega arith) c.loop-slot-test.array_long (c.loop-slot.invariant m first).1

@@ -7,7 +7,7 @@ use Rattle.command.proofs.parts.parts.Goals as goal
 pub returns : goal.returns
 unfolding parts
 returns c =
-    let e : c.all-parts.result.now ≡ listed = c.all-parts.ensures in
+    let e : c.all_parts.result.now ≡ listed = c.all_parts.ensures in
     record {
       same = e;
       lawful = subst (All LawfulPart) (sym e) all_lawful;

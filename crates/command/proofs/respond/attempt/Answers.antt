@@ -17,7 +17,7 @@ returns g c =
     let h : Holding = holding s c.in-Ok.cells c.args.events.now c.args.half_hours.now in
     let there = loaded_ok ps k c.in-Ok.cells c.in-Ok.ensures in
     let held : held_by s c.args.events.now c.args.half_hours.now (loaded ps k) room ≡ Ok h =
-    held_ok s c.args.events.now c.args.half_hours.now (loaded ps k) c.in-Ok.cells room (sym c.in-Ok.ensures) (sym c.if-not-shares-fit.ensures) (sym c.if-not-roomy.ensures) in
+    held_ok s c.args.events.now c.args.half_hours.now (loaded ps k) c.in-Ok.cells room (sym c.in-Ok.ensures) (sym c.if-not-shares_fit.ensures) (sym c.if-not-roomy.ensures) in
     record {
       told = c.answer_with.ensures.told ∙ ap (λ x. responded a x room) (sym held);
       wrote = c.answer_with.ensures.wrote ∙ ap (λ x. answer_left a x c.args.answer.now) (sym held);

@@ -17,13 +17,13 @@ by_table : (rs : List Setting) → rs ≡ table → with_initials (replicate 28 
 unfolding initial_page
 by_table rs e = ap (with_initials (replicate 28 0)) e
 
-pub put-initial-requires : goal.put-initial-requires
-put-initial-requires c =
+pub put_initial-requires : goal.put_initial-requires
+put_initial-requires c =
     All-get_or Within c.settings-setting-items.result.now c.loop-setting.setting-index _ c.loop-setting-test.true c.settings-setting-items.ensures.within
 
 pub loop-setting-preserved : goal.loop-setting-preserved
 loop-setting-preserved c =
-    more c.settings-setting-items.result.now c.loop-setting.setting-index _ c.loop-setting.page c.put-initial.new.page _ c.loop-setting-test.true c.put-initial.ensures c.loop-setting.invariant
+    more c.settings-setting-items.result.now c.loop-setting.setting-index _ c.loop-setting.page c.put_initial.new.page _ c.loop-setting-test.true c.put_initial.ensures c.loop-setting.invariant
 
 pub returns : goal.returns
 returns c =

@@ -10,12 +10,12 @@ within_rows = search arith
 pub returns : goal.returns
 unfolding table initial_page
 returns c =
-    let e : c.all-rows.result.now ≡ rows = c.all-rows.ensures in
+    let e : c.all_rows.result.now ≡ rows = c.all_rows.ensures in
     record {
       same = e;
       within = subst (All Within) (sym e) within_rows;
-      cells-once = ap cells_in e;
-      positions-once = ap covered_once e;
+      cells_once = ap cells_in e;
+      positions_once = ap covered_once e;
       initials_allowed = ap initials_allowed e;
-      initials-in-order = refl;
+      initials_in_order = refl;
     }

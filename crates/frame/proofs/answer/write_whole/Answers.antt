@@ -25,9 +25,9 @@ returns c =
     let content = c.args.content.now in
     let r = c.seal.result in
     let front : take r c.seal.new.buffer ≡ answer_of address command content =
-    c.seal.ensures.front ∙ sealed_is c.write-body-end.new.buffer (body_of address command content) c.write-body-end.result c.write-body-end.ensures.front in
+    c.seal.ensures.front ∙ sealed_is c.write_body-end.new.buffer (body_of address command content) c.write_body-end.result c.write_body-end.ensures.front in
     let rest : drop r c.seal.new.buffer ≡ drop r c.args.buffer.now =
-    c.seal.ensures.rest r (omega arith) ∙ c.write-body-end.ensures.rest r (omega arith) in
+    c.seal.ensures.rest r (omega arith) ∙ c.write_body-end.ensures.rest r (omega arith) in
     record {
       length = omega arith;
       wrote = whole c.seal.new.buffer (answer_of address command content) (drop r c.args.buffer.now) r front rest;

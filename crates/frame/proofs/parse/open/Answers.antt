@@ -12,5 +12,5 @@ passes a body check front back u f b v e =
 
 pub returns : goal.returns
 returns c =
-    passes _ c.split-at.result.0.now c.split-at.result.1.now _ _ _
-    c.split-at.ensures.front c.split-at.ensures.back c.in-ok-verify.ensures c.take-apart.ensures
+    passes _ c.split_at.result.0.now c.split_at.result.1.now _ _ _
+    c.split_at.ensures.front c.split_at.ensures.back c.in_ok-verify.ensures c.take_apart.ensures

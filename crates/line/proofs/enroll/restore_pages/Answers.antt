@@ -14,5 +14,5 @@ loop-page-preserved g c =
     let here : k < length held = omega (arith, ap length c.loop-page.invariant ∙ length-initial_pages k before) in
     c.restore.ensures.left
     ∙ cond-true _ _ _ (lt-ltb k (length held) here)
-    ∙ ap (set held k) c.initial-page-cells.ensures
+    ∙ ap (set held k) c.initial_page-cells.ensures
     ∙ pages_more k before held few c.loop-page.invariant

@@ -12,20 +12,20 @@ use Rattle.line.proofs.Serving.{part_in, fit_is, held_is, served_is}
 use Rattle.line.proofs.Tables.{shares_set}
 use Rattle.line.proofs.respond.dispatch.Goals as goal
 
-pub share-of-requires : goal.share-of-requires
-share-of-requires g c =
-    part_in c.in-ok-place.place (length c.args.stations.now) c.args.event_share (length c.args.events.now) c.in-ok-place.ensures.within c.requires.events_fit
+pub share_of-requires : goal.share_of-requires
+share_of-requires g c =
+    part_in c.in_ok-place.place (length c.args.stations.now) c.args.event_share (length c.args.events.now) c.in_ok-place.ensures.within c.requires.events_fit
 
-pub share-of-requires-2 : goal.share-of-requires-2
-share-of-requires-2 g c =
-    part_in c.in-ok-place.place (length c.args.stations.now) c.args.half_hour_share (length c.args.half_hours.now) c.in-ok-place.ensures.within c.requires.half_hours_fit
+pub share_of-requires-2 : goal.share_of-requires-2
+share_of-requires-2 g c =
+    part_in c.in_ok-place.place (length c.args.stations.now) c.args.half_hour_share (length c.args.half_hours.now) c.in_ok-place.ensures.within c.requires.half_hours_fit
 
 pub unreachable-requires : goal.unreachable-requires
 unreachable-requires g c =
     let ss = c.args.stations.now in
     let s = c.index-stations-place.result in
-    let k = c.in-ok-place.place in
-    let h : k < length ss = c.in-ok-place.ensures.within in
+    let k = c.in_ok-place.place in
+    let h : k < length ss = c.in_ok-place.ensures.within in
     let x : Lent = record {
       stations = views_of ss;
       pages = g.M.SettingsMemory.pages c.args.memory.now;
@@ -38,7 +38,7 @@ unreachable-requires g c =
     (fit_is x (station_view (get_or ss k s)) (length ss) k h
     (sym (get_or-map event_share_of ss k s 0 h) ∙ c.requires.events_sized k h)
     (sym (get_or-map half_hour_share_of ss k s 0 h) ∙ c.requires.half_hours_sized k h)
-    c.requires.events_fit c.requires.half_hours_fit _ _ c.share-of.ensures c.share-of-2.ensures)
+    c.requires.events_fit c.requires.half_hours_fit _ _ c.share_of.ensures c.share_of-2.ensures)
     c.requires.room)
 
 pub returns : goal.returns
@@ -46,9 +46,9 @@ returns g c =
     let ss = c.args.stations.now in
     let s = c.index-stations-place.result in
     let t = c.respond.new.station in
-    let k = c.in-ok-place.place in
-    let h : k < length ss = c.in-ok-place.ensures.within in
-    let a : Asked = asking c.in-ok-request.request in
+    let k = c.in_ok-place.place in
+    let h : k < length ss = c.in_ok-place.ensures.within in
+    let a : Asked = asking c.in_ok-request.request in
     let x : Lent = record {
       stations = views_of ss;
       pages = g.M.SettingsMemory.pages c.args.memory.now;
@@ -62,12 +62,12 @@ returns g c =
     held_is x (station_view (get_or ss k s)) (length ss) k h
     (sym (get_or-map event_share_of ss k s 0 h) ∙ c.requires.events_sized k h)
     (sym (get_or-map half_hour_share_of ss k s 0 h) ∙ c.requires.half_hours_sized k h)
-    c.requires.events_fit c.requires.half_hours_fit _ _ c.share-of.ensures c.share-of-2.ensures here (omega arith) (length c.args.answer.now) c.requires.room in
+    c.requires.events_fit c.requires.half_hours_fit _ _ c.share_of.ensures c.share_of-2.ensures here (omega arith) (length c.args.answer.now) c.requires.room in
     let left : station_view t ≡ (left_of a (held_at x k)).station = c.in-Ok.ensures.station ∙ ap (λ p. station_left a p (station_view (get_or ss k s))) has in
     record {
       told =
           served_is a x k c.args.frame.now c.in-Ok.reply c.args.answer.now c.respond.new.answer _
-          c.in-ok-request.ensures c.in-ok-place.ensures.place has c.in-Ok.ensures.told c.in-Ok.ensures.wrote
+          c.in_ok-request.ensures c.in_ok-place.ensures.place has c.in-Ok.ensures.told c.in-Ok.ensures.wrote
           _ _
           (map-set station_view ss k t ∙ ap (λ v. set (views_of ss) k v) left)
           (c.in-Ok.ensures.pages ∙ ap (λ p. pages_left a p x.pages k) has);

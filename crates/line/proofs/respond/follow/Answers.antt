@@ -17,7 +17,7 @@ returns g c =
     } in
     let buffer = c.args.answer.now in
     let octets = c.receive.new.self.octets in
-    let hears = c.in-ok-length.ensures in
+    let hears = c.in_ok-length.ensures in
     record {
       link = ap (λ t. t.next) hears;
       told =

@@ -6,10 +6,10 @@ pub returns-then-page-before : goal.returns-then-page-before
 returns-then-page-before g c =
     leads_first (g.A.SettingsMemory.pages c.args.first.now) (g.B.SettingsMemory.pages c.args.second.now) c.args.page (omega arith) (omega arith)
 
-pub returns-then-page-lt-MOST-PAGES : goal.returns-then-page-lt-MOST-PAGES
-returns-then-page-lt-MOST-PAGES g c =
-    leads_second (g.A.SettingsMemory.pages c.args.first.now) (g.B.SettingsMemory.pages c.args.second.now) c.args.page _ (omega arith) (omega arith) (ap (λ n. c.args.page - n) c.page-count-before.ensures)
+pub returns-then-page-lt-MOST_PAGES : goal.returns-then-page-lt-MOST_PAGES
+returns-then-page-lt-MOST_PAGES g c =
+    leads_second (g.A.SettingsMemory.pages c.args.first.now) (g.B.SettingsMemory.pages c.args.second.now) c.args.page _ (omega arith) (omega arith) (ap (λ n. c.args.page - n) c.page_count-before.ensures)
 
-pub returns-else-page-lt-MOST-PAGES : goal.returns-else-page-lt-MOST-PAGES
-returns-else-page-lt-MOST-PAGES g c =
+pub returns-else-page-lt-MOST_PAGES : goal.returns-else-page-lt-MOST_PAGES
+returns-else-page-lt-MOST_PAGES g c =
     leads_nowhere (g.A.SettingsMemory.pages c.args.first.now) (g.B.SettingsMemory.pages c.args.second.now) c.args.page (omega arith)

@@ -8,11 +8,11 @@ loop-cell-preserved g c =
     let ps = g.M.SettingsMemory.pages c.args.memory.now in
     let i = c.loop-cell.cell in
     let p = c.args.page in
-    let known = fetched_in ps p i c.in-ok-value.value c.loop-cell-test.true c.in-ok-value.ensures in
+    let known = fetched_in ps p i c.in_ok-value.value c.loop-cell-test.true c.in_ok-value.ensures in
     let whole : length (get_or ps p []) ≡ 28 = full ps p (g.M.SettingsMemory.paged c.args.memory.now) known.0 in (
-      length-set c.loop-cell.cells i c.in-ok-value.value ∙ c.loop-cell.invariant.0,
+      length-set c.loop-cell.cells i c.in_ok-value.value ∙ c.loop-cell.invariant.0,
       λ _. known.0,
-      copy_more c.loop-cell.cells (get_or ps p []) i c.in-ok-value.value (omega arith) (omega arith) known.1 c.loop-cell.invariant.2,
+      copy_more c.loop-cell.cells (get_or ps p []) i c.in_ok-value.value (omega arith) (omega arith) known.1 c.loop-cell.invariant.2,
     )
 
 pub returns : goal.returns

@@ -6,8 +6,8 @@ use Rattle.octet_text.proofs.line.push_spaced.Goals as goal
 
 pub loop-octet-preserved : goal.loop-octet-preserved
 loop-octet-preserved c =
-    spaced_more (vec_items c.loop-octet.line) (vec_items c.extend-from-slice.new.self) c.args.octets.now c.loop-octet.octet-index c.loop-octet-test.true
-    (c.in-ok-extend-from-slice.ensures.items ∙ ap (λ digits. vec_items c.loop-octet.line ++ digits) c.spaced-pair.ensures)
+    spaced_more (vec_items c.loop-octet.line) (vec_items c.extend_from_slice.new.self) c.args.octets.now c.loop-octet.octet-index c.loop-octet-test.true
+    (c.in_ok-extend_from_slice.ensures.items ∙ ap (λ digits. vec_items c.loop-octet.line ++ digits) c.spaced_pair.ensures)
     ∙ c.loop-octet.invariant
 
 pub returns : goal.returns

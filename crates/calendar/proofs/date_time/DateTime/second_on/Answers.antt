@@ -10,11 +10,11 @@ returns c =
     record {
       value = search rules;
       time_exists = time_exists;
-      second-on-exists = λ m e. exists_from _ (second_later m (exists_parts m e)).there;
+      second_on_exists = λ m e. exists_from _ (second_later m (exists_parts m e)).there;
       one_more = λ m e. (second_later m (exists_parts m e)).later;
-      as-many-more = λ n m e. (seconds_later n m (exists_parts m e)).later;
-      tells-times-apart = λ m n e f. seconds_tell m n (exists_parts m e) (exists_parts n f);
-      leap-day = refl;
-      no-leap-day = refl;
-      begins-anew = refl;
+      as_many_more = λ n m e. (seconds_later n m (exists_parts m e)).later;
+      tells_times_apart = λ m n e f. seconds_tell m n (exists_parts m e) (exists_parts n f);
+      leap_day = refl;
+      no_leap_day = refl;
+      begins_anew = refl;
     }

@@ -22,8 +22,8 @@ follow-requires g c =
       room = c.requires.room;
     }
 
-pub invariant-of-self : goal.invariant-of-self
-invariant-of-self g c =
+pub invariant_of-self : goal.invariant_of-self
+invariant_of-self g c =
     let l = c.args.self.now in
     let ys = c.follow.new.stations in (
       l.few,
