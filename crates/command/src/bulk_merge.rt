@@ -35,7 +35,7 @@ impl BulkWrite {
 }
 
 fn store_cell<M: SettingsMemory>(memory: &mut M, page: u16, cell: u8, value: Option<u16>)
-    ensures { pages memory.new ≡ stored_cell (pages memory.old) page cell value }
+    ensures { M.pages memory.new ≡ stored_cell (M.pages memory.old) page cell value }
 {
     if let Some(number) = value {
         let _ = memory.store(page, cell, number);
@@ -48,7 +48,7 @@ pub(crate) fn store_cells<M: SettingsMemory>(
     memory: &mut M,
     page: u16,
 )
-    ensures { pages memory.new ≡ slice_set (pages memory.old) page (merged_cells cells.now (slice_index_or (pages memory.old) page [])) }
+    ensures { M.pages memory.new ≡ slice_set (M.pages memory.old) page (merged_cells cells.now (slice_index_or (M.pages memory.old) page [])) }
 {
     for (cell, value) in cells.iter().enumerate() {
         store_cell(memory, page, cell as u8, *value);

@@ -83,7 +83,7 @@ impl Reset {
 
     // What becomes of its page.
     pub(crate) fn reset_page<M: SettingsMemory>(self, memory: &mut M, page: u16)
-        ensures { pages memory.new ≡ pages_after self (pages memory.old) page }
+        ensures { M.pages memory.new ≡ pages_after self (M.pages memory.old) page }
     {
         if self.settings {
             let _ = restore(memory, page, &initial_page());

@@ -53,7 +53,7 @@ fn obey_reset<M: SettingsMemory>(
 ) -> Result<Composed, Fault>
     ensures said { composed_of result ≡ then (then (reset_of content.now) (λ _. Ok [])) (λ shown. Ok (saying (answer_code Command.Reset) shown)) }
     ensures station { station_view station.new ≡ station_reset (reset_of content.now) (station_view station.old) }
-    ensures pages { pages memory.new ≡ pages_reset (reset_of content.now) (pages memory.old) page }
+    ensures pages { M.pages memory.new ≡ pages_reset (reset_of content.now) (M.pages memory.old) page }
 {
     let reset = read_reset(content)?;
     reset.reset_station(station);
@@ -99,7 +99,7 @@ fn obey<M: SettingsMemory>(
     requires half_hours { length half_hours.now ≡ (station_view station.old).half_hours.capacity }
     ensures said { composed_of result ≡ replied_as command content.now (holding (station_view station.old) cells.now events.now half_hours.now) }
     ensures station { station_view station.new ≡ (left_by command content.now (holding (station_view station.old) cells.now events.now half_hours.now)).station }
-    ensures pages { pages memory.new ≡ pages_by command content.now (pages memory.old) page }
+    ensures pages { M.pages memory.new ≡ pages_by command content.now (M.pages memory.old) page }
 {
     match command {
         Command::Reset => obey_reset(content, station, memory, page),
@@ -131,7 +131,7 @@ fn compose<M: SettingsMemory>(
     requires half_hours { length half_hours.now ≡ (station_view station.old).half_hours.capacity }
     ensures said { composed_of result ≡ replied (asking request.now) (holding (station_view station.old) cells.now events.now half_hours.now) }
     ensures station { station_view station.new ≡ (left_of (asking request.now) (holding (station_view station.old) cells.now events.now half_hours.now)).station }
-    ensures pages { pages memory.new ≡ pages_of (asking request.now) (pages memory.old) page }
+    ensures pages { M.pages memory.new ≡ pages_of (asking request.now) (M.pages memory.old) page }
 {
     let command = Command::read(request.command)?;
     obey(
@@ -217,7 +217,7 @@ fn answer_with<M: SettingsMemory>(
     ensures told { result ≡ told (length answer.old) (replied (asking request.now) (holding (station_view station.old) cells.now events.now half_hours.now)) }
     ensures wrote { answer.new ≡ written (asking request.now) (said (replied (asking request.now) (holding (station_view station.old) cells.now events.now half_hours.now))) answer.old }
     ensures station { station_view station.new ≡ (left_of (asking request.now) (holding (station_view station.old) cells.now events.now half_hours.now)).station }
-    ensures pages { pages memory.new ≡ pages_of (asking request.now) (pages memory.old) page }
+    ensures pages { M.pages memory.new ≡ pages_of (asking request.now) (M.pages memory.old) page }
     ensures answers { is_ok result ≡ true }
 {
     let composed = compose(request, station, memory, page, cells, events, half_hours);
@@ -241,12 +241,12 @@ fn attempt<M: SettingsMemory>(
     half_hours: &[HalfHour],
     answer: &mut [u8],
 ) -> Result<Reply, Unanswered>
-    ensures told { result ≡ responded (asking request.now) (held_by (station_view station.old) events.now half_hours.now (loaded (pages memory.old) page) (length answer.old)) (length answer.old) }
-    ensures wrote { answer.new ≡ answer_left (asking request.now) (held_by (station_view station.old) events.now half_hours.now (loaded (pages memory.old) page) (length answer.old)) answer.old }
-    ensures station { station_view station.new ≡ station_left (asking request.now) (held_by (station_view station.old) events.now half_hours.now (loaded (pages memory.old) page) (length answer.old)) (station_view station.old) }
-    ensures pages { pages memory.new ≡ pages_left (asking request.now) (held_by (station_view station.old) events.now half_hours.now (loaded (pages memory.old) page) (length answer.old)) (pages memory.old) page }
+    ensures told { result ≡ responded (asking request.now) (held_by (station_view station.old) events.now half_hours.now (loaded (M.pages memory.old) page) (length answer.old)) (length answer.old) }
+    ensures wrote { answer.new ≡ answer_left (asking request.now) (held_by (station_view station.old) events.now half_hours.now (loaded (M.pages memory.old) page) (length answer.old)) answer.old }
+    ensures station { station_view station.new ≡ station_left (asking request.now) (held_by (station_view station.old) events.now half_hours.now (loaded (M.pages memory.old) page) (length answer.old)) (station_view station.old) }
+    ensures pages { M.pages memory.new ≡ pages_left (asking request.now) (held_by (station_view station.old) events.now half_hours.now (loaded (M.pages memory.old) page) (length answer.old)) (M.pages memory.old) page }
     ensures sizes { ((station_view station.new).events.capacity ≡ (station_view station.old).events.capacity) × ((station_view station.new).half_hours.capacity ≡ (station_view station.old).half_hours.capacity) }
-    ensures answers { page < length (pages memory.old) → shares_fit (station_view station.old) events.now half_hours.now ≡ true → 567 ≤ length answer.old → is_ok result ≡ true }
+    ensures answers { page < length (M.pages memory.old) → shares_fit (station_view station.old) events.now half_hours.now ≡ true → 567 ≤ length answer.old → is_ok result ≡ true }
 {
     let Ok(cells) = load(memory, page) else {
         return Err(Unanswered::NoPage);
@@ -273,12 +273,12 @@ pub fn respond<M: SettingsMemory>(
     half_hours: &[HalfHour],
     answer: &mut [u8],
 ) -> Result<Reply, Unanswered>
-    ensures told { result ≡ responded (asking request.now) (held_by (station_view station.old) events.now half_hours.now (loaded (pages memory.old) page) (length answer.old)) (length answer.old) }
-    ensures wrote { answer.new ≡ answer_left (asking request.now) (held_by (station_view station.old) events.now half_hours.now (loaded (pages memory.old) page) (length answer.old)) answer.old }
-    ensures station { station_view station.new ≡ station_left (asking request.now) (held_by (station_view station.old) events.now half_hours.now (loaded (pages memory.old) page) (length answer.old)) (station_view station.old) }
-    ensures pages { pages memory.new ≡ pages_left (asking request.now) (held_by (station_view station.old) events.now half_hours.now (loaded (pages memory.old) page) (length answer.old)) (pages memory.old) page }
+    ensures told { result ≡ responded (asking request.now) (held_by (station_view station.old) events.now half_hours.now (loaded (M.pages memory.old) page) (length answer.old)) (length answer.old) }
+    ensures wrote { answer.new ≡ answer_left (asking request.now) (held_by (station_view station.old) events.now half_hours.now (loaded (M.pages memory.old) page) (length answer.old)) answer.old }
+    ensures station { station_view station.new ≡ station_left (asking request.now) (held_by (station_view station.old) events.now half_hours.now (loaded (M.pages memory.old) page) (length answer.old)) (station_view station.old) }
+    ensures pages { M.pages memory.new ≡ pages_left (asking request.now) (held_by (station_view station.old) events.now half_hours.now (loaded (M.pages memory.old) page) (length answer.old)) (M.pages memory.old) page }
     ensures sizes { ((station_view station.new).events.capacity ≡ (station_view station.old).events.capacity) × ((station_view station.new).half_hours.capacity ≡ (station_view station.old).half_hours.capacity) }
-    ensures answers { page < length (pages memory.old) → shares_fit (station_view station.old) events.now half_hours.now ≡ true → 567 ≤ length answer.old → is_ok result ≡ true }
+    ensures answers { page < length (M.pages memory.old) → shares_fit (station_view station.old) events.now half_hours.now ≡ true → 567 ≤ length answer.old → is_ok result ≡ true }
 {
     attempt(request, station, memory, page, events, half_hours, answer)
 }

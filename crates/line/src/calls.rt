@@ -94,14 +94,14 @@ impl Line {
         half_hours: &[HalfHour],
         answer: &mut [u8],
     ) -> Reception
-        requires paged { self.old.count ≤ length (pages memory.old) }
+        requires paged { self.old.count ≤ length (M.pages memory.old) }
         requires events_fit { length events.now ≡ self.old.count * self.old.event_share }
         requires half_hours_fit { length half_hours.now ≡ self.old.count * self.old.half_hour_share }
         requires room { 567 ≤ length answer.old }
-        ensures told { result ≡ reception_of (heard (line_view self.old) signal (loan (pages memory.old) events.now half_hours.now) answer.old).told }
-        ensures line { line_view self.new ≡ line_heard (line_view self.old) signal (loan (pages memory.old) events.now half_hours.now) answer.old }
-        ensures pages { pages memory.new ≡ (heard (line_view self.old) signal (loan (pages memory.old) events.now half_hours.now) answer.old).pages }
-        ensures answer { answer.new ≡ (heard (line_view self.old) signal (loan (pages memory.old) events.now half_hours.now) answer.old).answer }
+        ensures told { result ≡ reception_of (heard (line_view self.old) signal (loan (M.pages memory.old) events.now half_hours.now) answer.old).told }
+        ensures line { line_view self.new ≡ line_heard (line_view self.old) signal (loan (M.pages memory.old) events.now half_hours.now) answer.old }
+        ensures pages { M.pages memory.new ≡ (heard (line_view self.old) signal (loan (M.pages memory.old) events.now half_hours.now) answer.old).pages }
+        ensures answer { answer.new ≡ (heard (line_view self.old) signal (loan (M.pages memory.old) events.now half_hours.now) answer.old).answer }
     {
         reception(follow(
             &mut self.receiver,
@@ -125,10 +125,10 @@ impl Line {
         half_hours: &mut [HalfHour],
         answer: &mut [u8],
     ) -> Result<Reception, Refusal>
-        ensures result { result ≡ reception_after (line_view self.old) signal (loan (pages memory.old) events.old half_hours.old) answer.old }
-        ensures line { line_view self.new ≡ line_after (line_view self.old) signal (loan (pages memory.old) events.old half_hours.old) answer.old }
-        ensures answer { answer.new ≡ answer_after (line_view self.old) signal (loan (pages memory.old) events.old half_hours.old) answer.old }
-        ensures pages { pages memory.new ≡ pages_after (line_view self.old) signal (loan (pages memory.old) events.old half_hours.old) answer.old }
+        ensures result { result ≡ reception_after (line_view self.old) signal (loan (M.pages memory.old) events.old half_hours.old) answer.old }
+        ensures line { line_view self.new ≡ line_after (line_view self.old) signal (loan (M.pages memory.old) events.old half_hours.old) answer.old }
+        ensures answer { answer.new ≡ answer_after (line_view self.old) signal (loan (M.pages memory.old) events.old half_hours.old) answer.old }
+        ensures pages { M.pages memory.new ≡ pages_after (line_view self.old) signal (loan (M.pages memory.old) events.old half_hours.old) answer.old }
         ensures events { events.new ≡ events.old }
         ensures half_hours { half_hours.new ≡ half_hours.old }
     {

@@ -148,8 +148,8 @@ fn table_of(numbers: &[StationNumber], events: Ring, half_hours: Ring) -> [Stati
 
 // The first pages as they are at first.
 fn restore_pages<M: SettingsMemory>(memory: &mut M, count: u16)
-    requires { count ≤ length (pages memory.old) }
-    ensures { pages memory.new ≡ initial_pages count (pages memory.old) }
+    requires { count ≤ length (M.pages memory.old) }
+    ensures { M.pages memory.new ≡ initial_pages count (M.pages memory.old) }
 {
     let cells = initial_page();
     for page in 0..count {
@@ -235,9 +235,9 @@ impl Line {
         half_hours: &[HalfHour],
         half_hour_share: usize,
     ) -> Result<(), Refusal>
-        ensures result { result ≡ enrolling_asked (line_view self.old) numbers.now (length (pages memory.old)) (book (length events.now) event_share) (book (length half_hours.now) half_hour_share) }
-        ensures line { line_view self.new ≡ line_after_enrolling (line_view self.old) numbers.now (length (pages memory.old)) (book (length events.now) event_share) (book (length half_hours.now) half_hour_share) }
-        ensures pages { pages memory.new ≡ pages_after_enrolling (line_view self.old) numbers.now (pages memory.old) (book (length events.now) event_share) (book (length half_hours.now) half_hour_share) }
+        ensures result { result ≡ enrolling_asked (line_view self.old) numbers.now (length (M.pages memory.old)) (book (length events.now) event_share) (book (length half_hours.now) half_hour_share) }
+        ensures line { line_view self.new ≡ line_after_enrolling (line_view self.old) numbers.now (length (M.pages memory.old)) (book (length events.now) event_share) (book (length half_hours.now) half_hour_share) }
+        ensures pages { M.pages memory.new ≡ pages_after_enrolling (line_view self.old) numbers.now (M.pages memory.old) (book (length events.now) event_share) (book (length half_hours.now) half_hour_share) }
     {
         self.enrolling_asked(
             numbers,

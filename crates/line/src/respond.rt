@@ -40,13 +40,13 @@ fn dispatch<M: SettingsMemory>(
     answer: &mut [u8],
 ) -> Result<Option<Reply>, Fault>
     requires few { length stations.old ≤ 32 }
-    requires paged { length stations.old ≤ length (pages memory.old) }
+    requires paged { length stations.old ≤ length (M.pages memory.old) }
     requires events_sized { (k : ℕ) → k < length stations.old → slice_index (event_shares stations.old) k ≡ event_share }
     requires half_hours_sized { (k : ℕ) → k < length stations.old → slice_index (half_hour_shares stations.old) k ≡ half_hour_share }
     requires events_fit { length events.now ≡ length stations.old * event_share }
     requires half_hours_fit { length half_hours.now ≡ length stations.old * half_hour_share }
     requires room { 567 ≤ length answer.old }
-    ensures told { outcome result answer.new (views_of stations.exit.now) (pages memory.new) ≡ dispatched (record { stations = views_of stations.entry.now; pages = pages memory.old; events = events.now; event_share = event_share; half_hours = half_hours.now; half_hour_share = half_hour_share }) answer.old (opened frame.now) }
+    ensures told { outcome result answer.new (views_of stations.exit.now) (M.pages memory.new) ≡ dispatched (record { stations = views_of stations.entry.now; pages = M.pages memory.old; events = events.now; event_share = event_share; half_hours = half_hours.now; half_hour_share = half_hour_share }) answer.old (opened frame.now) }
     ensures event_shares { event_shares stations.new ≡ event_shares stations.old }
     ensures half_hour_shares { half_hour_shares stations.new ≡ half_hour_shares stations.old }
 {
@@ -79,14 +79,14 @@ pub(crate) fn follow<M: SettingsMemory>(
     answer: &mut [u8],
 ) -> Result<Option<Reply>, Fault>
     requires few { length stations.old ≤ 32 }
-    requires paged { length stations.old ≤ length (pages memory.old) }
+    requires paged { length stations.old ≤ length (M.pages memory.old) }
     requires events_sized { (k : ℕ) → k < length stations.old → slice_index (event_shares stations.old) k ≡ event_share }
     requires half_hours_sized { (k : ℕ) → k < length stations.old → slice_index (half_hour_shares stations.old) k ≡ half_hour_share }
     requires events_fit { length events.now ≡ length stations.old * event_share }
     requires half_hours_fit { length half_hours.now ≡ length stations.old * half_hour_share }
     requires room { 567 ≤ length answer.old }
     ensures link { link_of receiver.new ≡ (step (link_of receiver.old) signal).next }
-    ensures told { outcome result answer.new (views_of stations.exit.now) (pages memory.new) ≡ followed (record { stations = views_of stations.entry.now; pages = pages memory.old; events = events.now; event_share = event_share; half_hours = half_hours.now; half_hour_share = half_hour_share }) answer.old (step (link_of receiver.old) signal).told }
+    ensures told { outcome result answer.new (views_of stations.exit.now) (M.pages memory.new) ≡ followed (record { stations = views_of stations.entry.now; pages = M.pages memory.old; events = events.now; event_share = event_share; half_hours = half_hours.now; half_hour_share = half_hour_share }) answer.old (step (link_of receiver.old) signal).told }
     ensures event_shares { event_shares stations.new ≡ event_shares stations.old }
     ensures half_hour_shares { half_hour_shares stations.new ≡ half_hour_shares stations.old }
 {
