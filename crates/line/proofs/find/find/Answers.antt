@@ -23,15 +23,15 @@ module _ (ss : List Station) (k n : ℕ) (s : Station) (h : k < length ss) (e : 
 none : (ss : List Station) (k n : ℕ) → length ss ≤ k → None ≡ place_from k n (drop k (views_of ss))
 none ss k n h = sym (ap (place_from k n) (drop_all k (views_of ss) (omega (arith, length-map ss station_view))))
 
-pub returns-then-station_number : goal.returns-then-station_number
-returns-then-station_number c = record {
-  place = here c.args.stations.now c.loop-k.k c.args.number c.index-stations-k.result c.loop-k-test.true c.index-stations-k.is c.if-station_number.true ∙ c.loop-k.invariant;
+pub returns-then-station-number : goal.returns-then-station-number
+returns-then-station-number c = record {
+  place = here c.args.stations.now c.loop-k.k c.args.number c.index-stations-k.result c.loop-k-test.true c.index-stations-k.is c.if-station-number.true ∙ c.loop-k.invariant;
   within = c.loop-k-test.true;
 }
 
 pub loop-k-preserved : goal.loop-k-preserved
 loop-k-preserved c =
-    past c.args.stations.now c.loop-k.k c.args.number c.index-stations-k.result c.loop-k-test.true c.index-stations-k.is c.if-station_number.false ∙ c.loop-k.invariant
+    past c.args.stations.now c.loop-k.k c.args.number c.index-stations-k.result c.loop-k-test.true c.index-stations-k.is c.if-station-number.false ∙ c.loop-k.invariant
 
 pub returns : goal.returns
 returns c = record { place = none c.args.stations.now c.loop-k.k c.args.number c.loop-k-test.false ∙ c.loop-k.invariant; within = tt }

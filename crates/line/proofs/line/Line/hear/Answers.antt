@@ -25,22 +25,14 @@ follow-requires g c =
 pub invariant_of-self : goal.invariant_of-self
 invariant_of-self g c =
     let l = c.args.self.now in
-    let ys = c.follow.new.stations in (
-      l.few,
-      (
-        l.events_small,
-        (
-          l.half_hours_small,
-          (
-            shares_kept event_share_of l.count l.event_share l.stations ys l.few l.events_alike c.follow.ensures.event_shares,
-            (
-              shares_kept half_hour_share_of l.count l.half_hour_share l.stations ys l.few l.half_hours_alike c.follow.ensures.half_hour_shares,
-              tt,
-            ),
-          ),
-        ),
-      ),
-    )
+    let ys = c.follow.new.stations in
+    record {
+      few = l.few;
+      events_small = l.events_small;
+      half_hours_small = l.half_hours_small;
+      events_alike = shares_kept event_share_of l.count l.event_share l.stations ys l.few l.events_alike c.follow.ensures.event_shares;
+      half_hours_alike = shares_kept half_hour_share_of l.count l.half_hour_share l.stations ys l.few l.half_hours_alike c.follow.ensures.half_hour_shares;
+    }
 
 pub returns : goal.returns
 returns g c =
