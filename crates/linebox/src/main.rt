@@ -19,6 +19,7 @@ use octet_text::fault::{TextFault, TextProblem};
 use octet_text::line::octet_line;
 use std::env;
 use std::io::{Read, Write};
+use std::process::ExitCode;
 
 const HELP: &str = "linebox: two CSA-109-T stations, S001 and S1A0, polled by standard input
 
@@ -65,7 +66,7 @@ fn refused_text(rt: &HostRuntime, fault: TextFault) -> anyhow::Error {
         TextProblem::HalfAPair => "the text ends inside a pair",
     };
     match format!(in rt.alloc(); "line {line}, column {column}: {problem}") {
-        Ok(message) => message.into(),
+        Ok(message) => anyhow!(message),
         Err(error) => error.into(),
     }
 }
@@ -73,7 +74,7 @@ fn refused_text(rt: &HostRuntime, fault: TextFault) -> anyhow::Error {
 fn refused_call(rt: &HostRuntime, refusal: Refusal) -> anyhow::Error {
     let number = refusal.number();
     match format!(in rt.alloc(); "refused by {number}") {
-        Ok(message) => message.into(),
+        Ok(message) => anyhow!(message),
         Err(error) => error.into(),
     }
 }
@@ -164,12 +165,12 @@ fn run(rt: &HostRuntime) -> anyhow::Result<()> {
     }
 }
 
-fn main(rt: HostRuntime) -> anyhow::Result<()> {
+fn main(rt: HostRuntime) -> ExitCode {
     match run(&rt) {
-        Ok(()) => Ok(()),
+        Ok(()) => ExitCode::SUCCESS,
         Err(error) => {
-            eprintln!(rt; "linebox: {error}")?;
-            Err(error)
+            let _ = eprintln!(rt; "linebox: {error}");
+            ExitCode::FAILURE
         }
     }
 }
