@@ -1,5 +1,5 @@
 -- One second on, carry by carry. What is too large begins anew, and what stands before it goes on by one.
-use Rattle.std.specs.Prelude.{ℕ, ◌+◌, cond, nat_lt}
+use Rattle.std.specs.Prelude.{◌+◌, cond, nat_lt}
 use Rattle.calendar.specs.Calendar.{days_of_month}
 use Rattle.calendar.specs.Moment.{Moment, moment}
 

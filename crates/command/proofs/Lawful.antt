@@ -1,13 +1,13 @@
 -- Each part of a bulk write lies where it should, by one test that is computed over the table.
 use Rattle.std.proofs.Common.{◌≡◌, ◌+◌, Bool, true, ◌&&◌, eqb, ltb, leb, List, [], ◌∷◌, refl}
-use Rattle.std.specs.List.{AllByRecursion as All}
+use Rattle.std.specs.List.{AllByRecursion}
 use Rattle.std.proofs.lemmas.Bool.{and_parts, leb-true, ltb-true, eqb-true}
 use Rattle.command.specs.declared.parts.Part.{Part}
 use Rattle.command.specs.declared.parts.Part.TheVariants.{Number, Contract, Blank}
 use Rattle.command.specs.Table.{every}
 use Rattle.command.specs.Parts.{listed, digit_count, LawfulPart}
 
-all_every : {X : Type 0} (test : X → Bool) (P : X → Type 0) → ((x : X) → test x ≡ true → P x) → (xs : List X) → every test xs ≡ true → All P xs
+all_every : {X : Type 0} (test : X → Bool) (P : X → Type 0) → ((x : X) → test x ≡ true → P x) → (xs : List X) → every test xs ≡ true → AllByRecursion P xs
 all_every test P tells [] t = tt
 all_every test P tells (x ∷ xs) t = let h = and_parts (test x) (every test xs) t in (tells x h.0, all_every test P tells xs h.1)
 
@@ -32,5 +32,5 @@ lawful_tells (Number s) t =
 lawful_tells Contract t = tt
 lawful_tells (Blank p w) t = let a = and_parts (leb 8 p) (leb (p + w) 251) t in (leb-true _ _ a.0, leb-true _ _ a.1)
 
-pub all_lawful : All LawfulPart listed
+pub all_lawful : AllByRecursion LawfulPart listed
 all_lawful = all_every lawful LawfulPart lawful_tells listed refl

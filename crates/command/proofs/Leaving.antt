@@ -15,7 +15,7 @@ use Rattle.command.specs.declared.reset.Reset.{Reset as Effects}
 use Rattle.command.specs.declared.respond.Unanswered.TheVariants.{WrongShare, NoRoom}
 use Rattle.command.specs.Commands.{command_of}
 use Rattle.command.specs.Replies.{left_by, left_with, left_of, pages_by, pages_with, pages_of, shares_fit, held_by}
-use Rattle.command.specs.Resets.{reset_of, station_reset, held_after, pages_reset, pages_after, page_after}
+use Rattle.command.specs.Resets.{reset_of, station_reset, held_after, pages_reset}
 use Rattle.command.specs.Stations.{StationView, Holding, holding}
 use Rattle.command.specs.Table.{initial_page}
 

@@ -1,5 +1,5 @@
 -- What the data of a bulk write set, or the first fault.
-use Rattle.std.specs.Prelude.{ℕ, ◌+◌, Bool, cond, ◌&&◌, ◌||◌, List, [], ◌∷◌, length, set, replicate, Some, None, Ok, Err, Option, Result, ◌==◌, slice_index, slice_set}
+use Rattle.std.specs.Prelude.{ℕ, ◌+◌, Bool, cond, ◌&&◌, ◌||◌, List, [], ◌∷◌, length, replicate, Some, None, Ok, Err, Option, Result, ◌==◌, slice_index, slice_set}
 use Rattle.calendar.specs.Moment.{Moment}
 use Rattle.command.specs.declared.bulk_write.BulkWrite.{BulkWrite}
 use Rattle.command.specs.declared.fault.Fault.{Fault}

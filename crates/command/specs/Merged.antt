@@ -1,5 +1,5 @@
 -- A bulk write put over a page.
-use Rattle.std.specs.Prelude.{ℕ, List, [], ◌∷◌, set, Some, None, Option, slice_set}
+use Rattle.std.specs.Prelude.{ℕ, List, [], ◌∷◌, Some, None, Option, slice_set}
 use Rattle.memory.specs.Model.{stored}
 use Rattle.command.specs.Bulk.{Cells}
 

@@ -1,5 +1,5 @@
 -- What a station answers to a request, and how that leaves the buffer.
-use Rattle.std.specs.Prelude.{ℕ, Bool, cond, ◌&&◌, List, [], ◌∷◌, length, Some, None, Ok, Err, Option, Result, ◌==◌, nat_le, slice_set}
+use Rattle.std.specs.Prelude.{ℕ, Bool, cond, ◌&&◌, List, [], length, Some, None, Ok, Err, Option, Result, ◌==◌, nat_le, slice_set}
 use Rattle.frame.specs.declared.answer.NoRoom.{NoRoom}
 use Rattle.frame.specs.Requests.{Asked}
 use Rattle.frame.specs.Answers.{counted, fronted}

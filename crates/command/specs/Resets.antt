@@ -1,5 +1,5 @@
 -- What command 54 asks for, and what it leaves.
-use Rattle.std.specs.Prelude.{ℕ, ◌/◌, ◌%◌, Bool, cond, ◌||◌, List, length, Ok, Err, Result, ◌==◌, nat_le, nat_lt, slice_index}
+use Rattle.std.specs.Prelude.{ℕ, ◌/◌, ◌%◌, cond, ◌||◌, List, length, Ok, Err, Result, ◌==◌, nat_le, nat_lt, slice_index}
 use Rattle.book.specs.Ranked.{empty}
 use Rattle.memory.specs.Model.{restored}
 use Rattle.command.specs.declared.fault.Fault.{Fault}

@@ -1,6 +1,6 @@
 // The parts of a bulk write behind the clock, in the order of their positions.
 ghost use Rattle.std.specs.Prelude.{◌≡◌, true};
-ghost use Rattle.std.specs.List.{AllByRecursion as All};
+ghost use Rattle.std.specs.List.{AllByRecursion};
 ghost use Rattle.command.specs.Parts.{listed, parts, LawfulPart, widths, one_behind_another};
 
 use crate::setting::Setting;
@@ -64,7 +64,7 @@ fn all_parts() -> &'static [Part]
 // The table of parts: from position 20, behind the clock, to 250, each begins where the one before it ends.
 pub(crate) fn parts() -> &'static [Part]
     ensures same { result.now ≡ parts }
-    ensures lawful { All LawfulPart result.now }
+    ensures lawful { AllByRecursion LawfulPart result.now }
     ensures one_behind_another { one_behind_another 20 result.now ≡ true }
     ensures widths { widths result.now ≡ 231 }
 {

@@ -1,6 +1,6 @@
 // The settings table: one row for each field of a bulk write that is a setting.
 ghost use Rattle.std.specs.Prelude.{◌≡◌, ℕ, ◌+◌, ◌≤◌, true};
-ghost use Rattle.std.specs.List.{AllByRecursion as All, range_with_len};
+ghost use Rattle.std.specs.List.{AllByRecursion, range_with_len};
 ghost use Rattle.command.specs.Table.{rows, table, Within, cells_in, covered_once, initials_allowed, limits_in_order, initial_page, cells_of, with_initial};
 
 use crate::setting::{Allowed, Setting};
@@ -193,7 +193,7 @@ fn all_rows() -> &'static [Setting]
 // the runs that hold F, their fields cover positions 8 to 250 once; what a page holds at first is allowed.
 pub fn settings() -> &'static [Setting]
     ensures same { result.now ≡ table }
-    ensures within { All Within result.now }
+    ensures within { AllByRecursion Within result.now }
     ensures cells_once { cells_in result.now ≡ range_with_len 0 28 }
     ensures positions_once { covered_once result.now ≡ true }
     ensures initials_allowed { initials_allowed result.now ≡ true }

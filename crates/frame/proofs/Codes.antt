@@ -1,5 +1,5 @@
 -- Digits and answers read back.
-use Rattle.std.proofs.Common.{◌≡◌, ℕ, ◌+◌, ◌-◌, ◌*◌, ◌/◌, ◌%◌, ◌<◌, ◌≤◌, Bool, true, cond, ◌&&◌, eqb, List, [], ◌∷◌, ◌++◌, length, get_or, take, drop, Some, None, sym, refl, ap, ◌∙◌, arith}
+use Rattle.std.proofs.Common.{◌≡◌, ℕ, ◌+◌, ◌-◌, ◌/◌, ◌%◌, ◌<◌, true, List, [], ◌∷◌, ◌++◌, length, get_or, take, Some, None, refl, ap, ◌∙◌, arith}
 use Rattle.std.proofs.lemmas.Bool.Decides.{nat_tests}
 use Rattle.std.proofs.lemmas.List.{append_assoc, length-append, take-append-le, take_all, drop-append-le, drop_all, get_or-append_right, length_push}
 use Rattle.std.proofs.lemmas.Bool.{eq-eqb, le-leb, and_from, cond-true}
@@ -7,7 +7,7 @@ use Rattle.std.specs.List.{between}
 use Rattle.frame.specs.Digits.{digit_of, value_of, octet_of, two_digits}
 use Rattle.frame.specs.Checksum.{checksum_of}
 use Rattle.frame.specs.Requests.{says, summed}
-use Rattle.frame.specs.Answers.{body_of, sealed, answer_of, Answer, answer_with, parts_of, framed, read_body, read_back}
+use Rattle.frame.specs.Answers.{body_of, answer_of, answer_with, parts_of, framed, read_body, read_back}
 
 pub value_of_digit : (v : ℕ) → v < 16 → value_of (digit_of v) ≡ Some v
 value_of_digit v h = grind (arith, nat_tests)

@@ -1,6 +1,6 @@
 -- Reception over whole runs of signals.
 use Rattle.std.proofs.Common.{◌≡◌, ℕ, ◌+◌, ◌<◌, ◌≤◌, ◌⊎◌, List, [], ◌∷◌, ◌++◌, map, length, Some, None, Ok, Err, sym, refl, ap, ◌∙◌, subst, inl, inr, arith}
-use Rattle.std.specs.List.{AllByRecursion as All}
+use Rattle.std.specs.List.{AllByRecursion}
 use Rattle.std.proofs.lemmas.List.{append_assoc, append-nil, length_push}
 use Rattle.std.proofs.lemmas.Bool.{cases_lt, cases_eq}
 use Rattle.std.proofs.lemmas.Bool.Decides.{nat_tests}
@@ -53,7 +53,7 @@ apart p = let z : ◌≡◌ {A = ℕ} 0 1 = cc in omega arith
 same_begun : {xs ys : List ℕ} → begun xs ≡ begun ys → xs ≡ ys
 same_begun e = cc
 
-grows : (ys xs : List ℕ) → All Plain xs → length ys + length xs ≤ 251 → after (begun ys) (map Octet xs) ≡ begun (ys ++ xs)
+grows : (ys xs : List ℕ) → AllByRecursion Plain xs → length ys + length xs ≤ 251 → after (begun ys) (map Octet xs) ≡ begun (ys ++ xs)
 grows ys [] p h = ap begun (sym (append-nil ys))
 grows ys (x ∷ xs) p h =
     let plain : Plain x = p.0 in
@@ -82,7 +82,7 @@ record Carried (l : Link) (ss : List Signal) (xs : List ℕ) : Type 0 where
   from : l ≡ begun ys
   all : ss ≡ map Octet zs
   joined : xs ≡ ys ++ zs
-  plain : All Plain zs
+  plain : AllByRecursion Plain zs
   few : length xs ≤ 251
 
 longer : (s : Signal) (ss : List Signal) (xs : List ℕ) → Begun ss xs → Begun (s ∷ ss) xs
@@ -124,7 +124,7 @@ after_one l s ss xs (began g f) (inl c) =
     inr (record {
       before = [];
       ends = ap (λ (t : Signal). t ∷ ss) g ∙ ap (λ (t : List Signal). Octet 5 ∷ t) (c.all ∙ ap (map Octet) (sym whole));
-      plain = subst (All Plain) (sym whole) c.plain;
+      plain = subst (AllByRecursion Plain) (sym whole) c.plain;
       few = c.few;
     })
 after_one l s ss xs (grew ys o p g k few f) (inl c) =

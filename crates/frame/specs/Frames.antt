@@ -1,10 +1,10 @@
 -- What reception comes to over whole runs of signals, in the words of the line.
-use Rattle.std.specs.Prelude.{◌≡◌, ℕ, ◌+◌, ◌<◌, ◌≤◌, List, [], ◌∷◌, ◌++◌, map, length, Some, None, Ok, Err, ◌≢◌}
-use Rattle.std.specs.List.{AllByRecursion as All}
+use Rattle.std.specs.Prelude.{◌≡◌, ℕ, ◌<◌, ◌≤◌, List, [], ◌∷◌, ◌++◌, map, length, Some, Ok, Err, ◌≢◌}
+use Rattle.std.specs.List.{AllByRecursion}
 use Rattle.frame.specs.declared.fault.Fault.TheVariants.{DamagedOctet, TooLong}
 use Rattle.frame.specs.declared.signal.Signal.{Signal}
 use Rattle.frame.specs.declared.signal.Signal.TheVariants.{Octet, Damaged}
-use Rattle.frame.specs.Reception.{Link, idle, begun, step, at, Told, enq, cr}
+use Rattle.frame.specs.Reception.{Link, idle, step, at, Told, enq, cr}
 
 -- an octet that a frame collects: undamaged, neither ENQ nor CR
 abbrev pub Plain : ℕ → Type 0
@@ -28,13 +28,13 @@ told_at ss s = (step (after idle ss) s).told
 pub record Begun (ss : List Signal) (xs : List ℕ) : Type 0 where
   pub before : List Signal
   pub ends : ss ≡ before ++ (Octet enq ∷ map Octet xs)
-  pub plain : All Plain xs
+  pub plain : AllByRecursion Plain xs
   pub few : length xs ≤ 251
 
 -- ENQ, at most 251 plain octets and CR come out as that frame, from whatever state
 abbrev pub FramesComeThrough : Type 0
 FramesComeThrough =
-    (l : Link) (xs : List ℕ) → All Plain xs → length xs ≤ 251
+    (l : Link) (xs : List ℕ) → AllByRecursion Plain xs → length xs ≤ 251
     → step (after l (Octet enq ∷ map Octet xs)) (Octet cr) ≡ at idle (Ok (Some xs))
 
 -- a frame is told exactly at the CR behind its ENQ and its octets

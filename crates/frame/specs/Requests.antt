@@ -1,5 +1,5 @@
 -- What a frame asks, over its octets between ENQ and CR.
-use Rattle.std.specs.Prelude.{ℕ, ◌+◌, ◌-◌, ◌*◌, Bool, true, false, cond, List, [], ◌∷◌, ◌++◌, length, take, drop, Some, None, Ok, Err, Option, Result, ◌==◌, nat_lt, slice_index}
+use Rattle.std.specs.Prelude.{ℕ, ◌+◌, ◌-◌, ◌*◌, Bool, false, cond, List, [], ◌∷◌, length, take, drop, Some, None, Ok, Err, Option, Result, ◌==◌, nat_lt, slice_index}
 use Rattle.frame.specs.declared.fault.Fault.{Fault}
 use Rattle.frame.specs.declared.fault.Fault.TheVariants.{TooShort, WrongChecksum}
 use Rattle.frame.specs.declared.request.Request.{Request}

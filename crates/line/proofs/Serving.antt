@@ -1,12 +1,11 @@
 -- One frame that a station answers, as the definitions have it.
-use Rattle.std.proofs.Common.{◌≡◌, ℕ, ◌+◌, ◌-◌, ◌*◌, ◌<◌, ◌≤◌, min, Bool, true, false, cond, ltb, leb, List, [], ◌∷◌, ◌++◌, length, get_or, take, drop, set, Some, None, Ok, Err, Option, Result, sym, refl, ap, ◌∙◌, inl, inr, add-mul, arith}
+use Rattle.std.proofs.Common.{◌≡◌, ℕ, ◌+◌, ◌-◌, ◌*◌, ◌<◌, ◌≤◌, min, true, cond, ltb, leb, List, [], ◌++◌, length, get_or, take, drop, set, Some, Ok, Err, Result, sym, refl, ap, ◌∙◌, inl, inr, add-mul, arith}
 use Rattle.std.proofs.lemmas.List.{length-append, length-take, length-drop}
 use Rattle.std.proofs.lemmas.Nat.{mul-le}
 use Rattle.std.proofs.lemmas.Bool.{cases_Bool, cond-true, cond-false, lt-ltb, le-leb, eq-eqb, and_from}
-use Rattle.frame.specs.declared.answer.NoRoom.{NoRoom}
 use Rattle.frame.specs.declared.fault.Fault.{Fault}
-use Rattle.frame.specs.Requests.{Asked, verified, summed, asked_by, after_verifying, unsealed, opened}
-use Rattle.frame.specs.Answers.{answer_of, room, counted, fronted}
+use Rattle.frame.specs.Requests.{Asked, verified, asked_by, after_verifying, opened}
+use Rattle.frame.specs.Answers.{answer_of, room, fronted}
 use Rattle.memory.specs.Model.{loaded}
 use Rattle.book.specs.Ranked.{share}
 use Rattle.command.specs.declared.event.Event.{Event}
@@ -21,7 +20,7 @@ use Rattle.command.specs.Commands.{command_of, answer_code}
 use Rattle.command.specs.Questions.{then}
 use Rattle.command.specs.Readings.{content_for}
 use Rattle.command.specs.Replies.{Saying, saying, said, fault_in, replied, left_of, told_with, told, shares_fit, held_by, responded, answer_left}
-use Rattle.line.specs.Receiving.{place_of, nobody, Lent, held_at, Outcome, outcome, octets_of, told_of, fronted_by, served, dispatched}
+use Rattle.line.specs.Receiving.{place_of, nobody, Lent, held_at, outcome, octets_of, told_of, fronted_by, served, dispatched}
 
 clash : {X : Type 0} → ◌≡◌ {A = ℕ} 0 1 → X
 clash z = absurd (let no_way : ⊥ = omega arith in no_way)

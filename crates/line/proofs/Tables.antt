@@ -1,5 +1,5 @@
 -- Tables of stations: their views, and the sizes of their shares.
-use Rattle.std.proofs.Common.{◌≡◌, ℕ, ◌+◌, ◌-◌, ◌<◌, ◌≤◌, List, [], ◌∷◌, ◌++◌, map, length, get_or, take, drop, set, replicate, sym, refl, ap, ◌∙◌, arith}
+use Rattle.std.proofs.Common.{◌≡◌, ℕ, ◌+◌, ◌-◌, ◌<◌, ◌≤◌, List, [], ◌∷◌, ◌++◌, map, length, get_or, take, set, replicate, sym, ap, ◌∙◌, arith}
 use Rattle.std.proofs.lemmas.List.{take_more_set, take_all, map_more, map_push, map-set, length-map, length-take, length-take-le, length-drop, length-append, set-get_or, get_or-replicate, get_or_default, get_or-take, get_or-map, take-map, map-append, take-append-drop, take-append-le}
 use native.Mathlib.Nat.{sub-zero}
 use borrow.Rule.Slice.PartMut.{mid_of, post_of}

@@ -1,5 +1,5 @@
 -- A line as plain values, without what their types say of them.
-use Rattle.std.specs.Prelude.{ℕ, List, [], ◌∷◌, map, take}
+use Rattle.std.specs.Prelude.{ℕ, List, [], map, take}
 use Rattle.frame.specs.Reception.{Link, idle, link_of}
 use Rattle.command.specs.declared.station.Station.{Station}
 use Rattle.command.specs.Stations.{StationView, station_view}

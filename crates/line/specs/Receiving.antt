@@ -4,7 +4,7 @@ use Rattle.frame.specs.declared.fault.Fault.{Fault}
 use Rattle.frame.specs.declared.fault.Fault.TheVariants.{UnknownStation}
 use Rattle.frame.specs.declared.signal.Signal.{Signal}
 use Rattle.frame.specs.declared.station_number.StationNumber.{StationNumber}
-use Rattle.frame.specs.Reception.{Link, Told, Step, step}
+use Rattle.frame.specs.Reception.{Link, Told, step}
 use Rattle.frame.specs.Requests.{Asked, opened}
 use Rattle.frame.specs.Answers.{answer_of}
 use Rattle.command.specs.declared.fault.Fault.{Fault as CommandFault}

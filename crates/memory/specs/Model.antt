@@ -1,16 +1,16 @@
 -- What a settings memory holds, and what fetching and storing answer and leave: a memory is a list of pages, and a page a list of cells.
 use Rattle.std.specs.Prelude.{◌≡◌, ℕ, ◌≤◌, cond, List, [], length, Ok, Err, Result, nat_lt, slice_index, slice_index_or, slice_set}
-use Rattle.std.specs.List.{AllByRecursion as All}
+use Rattle.std.specs.List.{AllByRecursion}
 use Rattle.memory.specs.declared.MemoryRefusal.{MemoryRefusal}
 use Rattle.memory.specs.declared.MemoryRefusal.TheVariants.{NoPage, NoCell}
 
 -- 28 cells, each at most 65,535
 abbrev pub Page : List ℕ → Type 0
-Page cells = (length cells ≡ 28) × All (λ v. v ≤ 65535) cells
+Page cells = (length cells ≡ 28) × AllByRecursion (λ v. v ≤ 65535) cells
 
 -- at most 65,535 pages
 abbrev pub Paged : List (List ℕ) → Type 0
-Paged ps = (length ps ≤ 65535) × All Page ps
+Paged ps = (length ps ≤ 65535) × AllByRecursion Page ps
 
 -- x, or the refusal: among n pages the page p is asked for first, then the cell c
 abbrev pub admitted : {X : Type 0} → ℕ → ℕ → ℕ → X → Result X MemoryRefusal

@@ -1,7 +1,7 @@
 -- That what the memories hold is a memory's content.
 use Rattle.std.specs.Prelude.{◌≡◌, ℕ, ◌+◌, ◌≤◌, min, List, [], ◌∷◌, ◌++◌, map, length}
 use Rattle.std.proofs.Common.{ap, ◌∙◌, arith}
-use Rattle.std.specs.List.{range_with_len, AllByRecursion as All}
+use Rattle.std.specs.List.{range_with_len, AllByRecursion}
 use Rattle.std.proofs.lemmas.List.FromFn.{length-map-range_with_len}
 use Rattle.std.proofs.ByRecursion.{All-append, All-take}
 use Rattle.std.proofs.lemmas.List.{length-append, length-take}
@@ -11,7 +11,7 @@ use Rattle.memory.specs.Working.{by_page}
 use Rattle.memory.specs.Chip.{by_cell}
 use Rattle.memory.specs.Joined.{one_after}
 
-every_map : {X Y : Type 0} (P : Y → Type 0) (f : X → Y) → ((x : X) → P (f x)) → (xs : List X) → All P (map f xs)
+every_map : {X Y : Type 0} (P : Y → Type 0) (f : X → Y) → ((x : X) → P (f x)) → (xs : List X) → AllByRecursion P (map f xs)
 every_map P f h [] = tt
 every_map P f h (x ∷ xs) = (h x, every_map P f h xs)
 

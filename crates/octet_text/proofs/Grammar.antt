@@ -1,7 +1,7 @@
 -- The reader accepts the hexadecimal texts, and no other.
 use Rattle.std.proofs.Common.{◌≡◌, ℕ, ◌+◌, ◌*◌, ◌/◌, ◌%◌, ◌<◌, Bool, true, false, cond, eqb, List, [], ◌∷◌, ◌++◌, Some, None, Ok, Option, Result, sym, refl, ap, ◌∙◌, subst, arith}
 use Rattle.std.specs.Option.{option_to_list}
-use Rattle.std.specs.List.{flat_map, AllByRecursion as All}
+use Rattle.std.specs.List.{flat_map, AllByRecursion}
 use Rattle.std.proofs.lemmas.List.{append-nil, append_assoc}
 use Rattle.std.proofs.lemmas.Bool.{eqb-true, cond_both}
 use Rattle.std.proofs.lemmas.Bool.Decides.{nat_tests}
@@ -199,7 +199,7 @@ pairs_written [] text octets h w = w
 pairs_written (x ∷ xs) text octets h w =
     octet_written x (spaced xs ++ text) (xs ++ octets) h.0 (spaced_written xs text octets h.1 w)
 
-lines_written : (lines : List (List ℕ)) → All Octets lines → Writes (flat_map line_of lines) (flat_map (λ xs. xs) lines)
+lines_written : (lines : List (List ℕ)) → AllByRecursion Octets lines → Writes (flat_map line_of lines) (flat_map (λ xs. xs) lines)
 lines_written [] h = nothing
 lines_written (xs ∷ lines) h =
     subst (λ (text : List ℕ). Writes text (xs ++ flat_map (λ xs. xs) lines))

@@ -1,6 +1,6 @@
 -- What holds of whole texts, in their own words.
 use Rattle.std.specs.Prelude.{◌≡◌, ℕ, ◌+◌, ◌*◌, ◌^◌, ◌<◌, true, false, cond, List, [], ◌∷◌, ◌++◌, length, is_ok, Some, Ok, Err, ◌==◌}
-use Rattle.std.specs.List.{flat_map, AllByRecursion as All}
+use Rattle.std.specs.List.{flat_map, AllByRecursion}
 use Rattle.octet_text.specs.declared.fault.TextFault.{TextFault}
 use Rattle.octet_text.specs.declared.fault.TextProblem.{TextProblem}
 use Rattle.octet_text.specs.declared.fault.TextProblem.TheVariants.{NotADigit, HalfAPair}
@@ -37,11 +37,11 @@ CommentLinesDoNotMatter = (remark text octets : List ℕ) → newlines remark �
 
 -- each of the numbers is an octet
 abbrev pub Octets : List ℕ → Type 0
-Octets xs = All (λ x. x < 256) xs
+Octets xs = AllByRecursion (λ x. x < 256) xs
 
 -- lines that were written, one after another, are read as their octets, one after another
 abbrev pub LinesReadBack : Type 0
-LinesReadBack = (lines : List (List ℕ)) → All Octets lines → read_all (flat_map line_of lines) ≡ Ok (flat_map (λ xs. xs) lines)
+LinesReadBack = (lines : List (List ℕ)) → AllByRecursion Octets lines → read_all (flat_map line_of lines) ≡ Ok (flat_map (λ xs. xs) lines)
 
 -- no character of the text is refused; it may end inside a pair
 abbrev pub Accepted : List ℕ → Type 0

@@ -38,7 +38,7 @@ mod tests {
     fn text_is_read(rt: HostRuntime) -> Result<(), Fail> {
         let heap = rt.alloc();
         let poll = read_text(heap, b"# a poll\n05 53\t30# its head\r\n4a4B\n#")?;
-        assert!(rt; poll.as_slice() == [0x05, 0x53, 0x30, 0x4A, 0x4B]);
+        assert!(rt; poll.as_slice() == [0x05, 0x53, 0x30, 0x4A, 0x4B].as_slice());
         assert!(rt; read_text(heap, b"")?.is_empty());
         Ok(())
     }
@@ -63,8 +63,8 @@ mod tests {
     #[test]
     fn line_is_written(rt: HostRuntime) -> Result<(), Fail> {
         let heap = rt.alloc();
-        assert!(rt; octet_line(heap, &[0x05, 0x0D, 0xAF])?.as_slice() == b"05 0D AF\n");
-        assert!(rt; octet_line(heap, &[])?.as_slice() == b"\n");
+        assert!(rt; octet_line(heap, &[0x05, 0x0D, 0xAF])?.as_slice() == b"05 0D AF\n".as_slice());
+        assert!(rt; octet_line(heap, &[])?.as_slice() == b"\n".as_slice());
         Ok(())
     }
 }

@@ -1,4 +1,4 @@
-use Rattle.std.proofs.Common.{[], ◌∷◌, length, refl, ◌∙◌, arith}
+use Rattle.std.proofs.Common.{[], ◌∷◌, refl, ◌∙◌, arith}
 use Rattle.command.specs.Gathered.{gathered}
 use Rattle.command.specs.Readings.{contract}
 use Rattle.command.proofs.ShowSteps.{two_pushed, contract_long}

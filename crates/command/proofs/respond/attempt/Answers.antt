@@ -1,7 +1,6 @@
-use Rattle.std.proofs.Common.{◌≡◌, ℕ, ◌<◌, true, List, [], length, get_or, set, Ok, Result, sym, ap, ◌∙◌}
+use Rattle.std.proofs.Common.{◌≡◌, length, set, Ok, sym, ap, ◌∙◌}
 use Rattle.frame.specs.Requests.{Asked, asking}
 use Rattle.memory.specs.Model.{loaded}
-use Rattle.command.specs.declared.respond.Unanswered.{Unanswered}
 use Rattle.command.specs.Replies.{left_of, held_by, responded, answer_left, station_left, pages_left}
 use Rattle.command.specs.Stations.{Holding, holding, station_view}
 use Rattle.command.proofs.Leaving.{pages_are, held_ok, loaded_ok, left_sizes}

@@ -1,4 +1,4 @@
-use Rattle.std.proofs.Common.{◌≡◌, sym, ap, ◌∙◌}
+use Rattle.std.proofs.Common.{sym, ap, ◌∙◌}
 use Rattle.command.specs.Replies.{replied_as, left_by, pages_by}
 use Rattle.command.specs.Resets.{reset_of}
 use Rattle.command.specs.Stations.{Holding, holding, station_view}

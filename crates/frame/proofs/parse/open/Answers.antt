@@ -1,4 +1,4 @@
-use Rattle.std.proofs.Common.{◌≡◌, ℕ, List, Ok, Err, Result, sym, ap, ◌∙◌}
+use Rattle.std.proofs.Common.{◌≡◌, ℕ, List, Ok, Result, ap, ◌∙◌}
 use Rattle.frame.specs.declared.fault.Fault.{Fault}
 use Rattle.frame.specs.Requests.{Asked, verified, apart_from, after_verifying}
 use Rattle.frame.proofs.parse.open.Goals as goal

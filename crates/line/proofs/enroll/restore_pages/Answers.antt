@@ -1,6 +1,5 @@
-use Rattle.std.proofs.Common.{◌≡◌, ◌<◌, length, set, sym, ap, ◌∙◌, arith}
+use Rattle.std.proofs.Common.{◌<◌, length, set, ap, ◌∙◌, arith}
 use Rattle.std.proofs.lemmas.Bool.{cond-true, lt-ltb}
-use Rattle.memory.specs.Model.{restored}
 use Rattle.line.proofs.Tables.{pages_more, length-initial_pages}
 use Rattle.line.proofs.enroll.restore_pages.Goals as goal
 

@@ -1,7 +1,6 @@
-use Rattle.std.proofs.Common.{◌≡◌, ℕ, ◌<◌, length, get_or, set, sym, ap, ◌∙◌, arith}
+use Rattle.std.proofs.Common.{◌≡◌, ◌<◌, length, get_or, set, sym, ap, ◌∙◌, arith}
 use Rattle.std.proofs.lemmas.List.{get_or-map, map-set}
 use Rattle.std.proofs.lemmas.Bool.{false≢true}
-use Rattle.command.specs.declared.station.Station.{Station}
 use Rattle.frame.specs.Requests.{Asked, asking}
 use Rattle.command.specs.Replies.{left_of, station_left, pages_left}
 use Rattle.command.specs.Stations.{station_view}

@@ -1,4 +1,4 @@
-use Rattle.std.proofs.Common.{◌≡◌, ℕ, Ok, sym, ap, ◌∙◌}
+use Rattle.std.proofs.Common.{Ok, sym, ap, ◌∙◌}
 use Rattle.frame.specs.Reception.{told_by}
 use Rattle.frame.specs.Requests.{opened}
 use Rattle.line.specs.Lines.{views_of}

@@ -1,4 +1,4 @@
-use Rattle.std.proofs.Common.{◌≡◌, refl, rules}
+use Rattle.std.proofs.Common.{refl, rules}
 use Rattle.calendar.specs.Carry.{second_on}
 use Rattle.calendar.proofs.Moments.{exists_parts, exists_from, time_exists}
 use Rattle.calendar.proofs.Century.{second_later, seconds_later, seconds_tell}

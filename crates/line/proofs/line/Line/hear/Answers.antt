@@ -1,10 +1,10 @@
-use Rattle.std.proofs.Common.{◌≡◌, ℕ, ◌-◌, ◌*◌, List, ◌++◌, length, take, sym, ap, ◌∙◌, arith}
+use Rattle.std.proofs.Common.{◌≡◌, ◌-◌, ◌*◌, List, ◌++◌, take, sym, ap, ◌∙◌, arith}
 use borrow.Rule.Slice.PartMut.{post_of}
 use Rattle.frame.specs.Reception.{step}
 use Rattle.command.specs.Stations.{StationView}
 use Rattle.line.specs.Shares.{event_share_of, half_hour_share_of}
 use Rattle.line.specs.Lines.{LineView, line_view, views_of}
-use Rattle.line.specs.Receiving.{Lent, Loan, loan, Outcome, outcome, followed, reception_of, heard, with_stations}
+use Rattle.line.specs.Receiving.{Lent, Loan, loan, outcome, followed, reception_of, heard, with_stations}
 use Rattle.line.proofs.Tables.{lent_is, length-lent, sized_lent, views_back, shares_kept}
 use Rattle.line.proofs.line.Line.hear.Goals as goal
 
