@@ -1,6 +1,5 @@
 -- The stations of the program: S001 and S1A0, with shares of 50 events and 48 half hours.
-use Rattle.std.specs.Prelude.{List, [], ◌∷◌, Ok, Err, Result}
-use Rattle.frame.specs.declared.station_number.StationNumber.{StationNumber}
+use Rattle.std.specs.Prelude.{[], ◌∷◌, Ok, Err, Result}
 use Rattle.frame.specs.Requests.{station}
 use Rattle.line.specs.Lines.{LineView}
 use Rattle.line.specs.declared.refusal.Refusal.{Refusal}

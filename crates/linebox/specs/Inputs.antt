@@ -1,5 +1,5 @@
 -- What an octet of the input brings, and where the input may end.
-use Rattle.std.specs.Prelude.{ℕ, Bool, true, false, Some, Ok, Err, Result}
+use Rattle.std.specs.Prelude.{ℕ, Bool, true, false, Some, Ok, Result}
 use Rattle.octet_text.specs.declared.fault.TextFault.{TextFault}
 use Rattle.octet_text.specs.Reading.{Reading, Step, step, read_one, finished}
 
