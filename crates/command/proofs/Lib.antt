@@ -1,4 +1,9 @@
 pub mod Ranking
 pub mod Slotting
 pub mod Leaving
+pub mod Lawful
+pub mod Ratios
+pub mod FieldSteps
+pub mod PartSteps
+pub mod MergeSteps
 pub mod ShowSteps

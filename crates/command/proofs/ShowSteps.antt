@@ -2,9 +2,9 @@
 use Rattle.std.proofs.Common.{◌≡◌, ℕ, ◌+◌, ◌-◌, ◌<◌, ◌≤◌, List, ◌++◌, length, get_or, take, drop, replicate, sym, ap, ◌∙◌, arith}
 use Rattle.std.specs.List.{between}
 use Rattle.std.proofs.lemmas.List.{append_assoc, append-nil, length-map, length-take, length-drop, take-replicate, at_drop_more, at_drop_all}
-use Rattle.settings.specs.declared.parts.Part.{Part}
+use Rattle.command.specs.declared.parts.Part.{Part}
 use Rattle.command.specs.Readings.{contract, sent_octet}
-use Rattle.settings.specs.Parts.{width_of, widths}
+use Rattle.command.specs.Parts.{width_of, widths}
 use Rattle.command.specs.Shown.{part_shown, parts_shown}
 
 -- two pushes, one after another

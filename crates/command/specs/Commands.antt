@@ -1,37 +1,35 @@
 -- The commands, the octets that name them, and those of their answers.
 use Rattle.std.specs.Prelude.{ℕ, ◌+◌, cond, ◌&&◌, List, [], ◌∷◌, Some, None, Ok, Err, Option, Result, ◌==◌, slice_index}
 use Rattle.frame.specs.Digits.{digit_of, value_of}
-use Rattle.settings.specs.declared.fault.Fault.{Fault}
-use Rattle.settings.specs.declared.fault.Fault.TheVariants.{UnknownCommand}
+use Rattle.command.specs.declared.fault.Fault.{Fault}
+use Rattle.command.specs.declared.fault.Fault.TheVariants.{UnknownCommand}
 use Rattle.command.specs.declared.known.Command.{Command}
-use Rattle.command.specs.declared.known.Command.TheVariants.{Read, Reset, WriteSettings}
-use Rattle.command.specs.declared.known.Reading.TheVariants.{Limits, Timers, Present, Events, Contract, HalfHours}
+use Rattle.command.specs.declared.known.Command.TheVariants.{ReadLimits, ReadTimers, ReadPresent, ReadEvents, ReadContract, Reset, ReadHalfHours, WriteSettings}
 
 -- the two octets of a request's command
 abbrev pub first_octet : Command → ℕ
-first_octet (Read Limits) = 48
-first_octet (Read Timers) = 48
-first_octet (Read Present) = 49
-first_octet (Read Events) = 49
-first_octet (Read Contract) = 49
+first_octet ReadLimits = 48
+first_octet ReadTimers = 48
+first_octet ReadPresent = 49
+first_octet ReadEvents = 49
+first_octet ReadContract = 49
 first_octet Reset = 53
-first_octet (Read HalfHours) = 54
+first_octet ReadHalfHours = 54
 first_octet WriteSettings = 54
 
 abbrev pub second_octet : Command → ℕ
-second_octet (Read Limits) = 67
-second_octet (Read Timers) = 70
-second_octet (Read Present) = 54
-second_octet (Read Events) = 56
-second_octet (Read Contract) = 57
+second_octet ReadLimits = 67
+second_octet ReadTimers = 70
+second_octet ReadPresent = 54
+second_octet ReadEvents = 56
+second_octet ReadContract = 57
 second_octet Reset = 52
-second_octet (Read HalfHours) = 50
+second_octet ReadHalfHours = 50
 second_octet WriteSettings = 67
 
--- all commands: 0C, 0F, 16, 18, 19, 54, 62, 6C
+-- all commands
 abbrev pub commands : List Command
-commands =
-    Read Limits ∷ Read Timers ∷ Read Present ∷ Read Events ∷ Read Contract ∷ Reset ∷ Read HalfHours ∷ WriteSettings ∷ []
+commands = ReadLimits ∷ ReadTimers ∷ ReadPresent ∷ ReadEvents ∷ ReadContract ∷ Reset ∷ ReadHalfHours ∷ WriteSettings ∷ []
 
 -- the first command of the list that two octets name
 abbrev pub named_in : ℕ → ℕ → List Command → Result Command Fault

@@ -1,7 +1,7 @@
 -- The data of an answer that are gathered so far.
 use Rattle.std.specs.Prelude.{ℕ, List, take, Ok, Err, Result}
 use Rattle.command.specs.declared.content.Content.{Content}
-use Rattle.settings.specs.declared.fault.Fault.{Fault}
+use Rattle.command.specs.declared.fault.Fault.{Fault}
 
 abbrev pub gathered : Content → List ℕ
 gathered x = take x.length x.octets

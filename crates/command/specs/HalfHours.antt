@@ -1,16 +1,17 @@
 -- What reading half hours asks for and shows.
 use Rattle.std.specs.Prelude.{ℕ, Bool, cond, ◌&&◌, List, [], ◌∷◌, ◌++◌, length, replicate, Some, None, Ok, Err, Option, Result, ◌==◌, slice_index}
 use Rattle.std.specs.List.{range_with_len, flat_map}
+use Rattle.book.specs.Ranked.{RingView, ranked}
 use Rattle.calendar.specs.declared.time_fault.TimeFault.{TimeFault}
 use Rattle.calendar.specs.declared.time_fault.TimeFault.TheVariants.{NotDigits, NoSuchTime as no_such_time}
-use Rattle.calendar.specs.Moment.{Moment, same_moment}
+use Rattle.calendar.specs.Moment.{Moment, moment_of, same_moment}
 use Rattle.calendar.specs.Digits.{read_of}
 use Rattle.calendar.specs.HalfHours.{half_hours_on}
 use Rattle.frame.specs.Digits.{four_digits}
-use Rattle.settings.specs.declared.fault.Fault.{Fault}
-use Rattle.settings.specs.declared.fault.Fault.TheVariants.{WrongLength, WrongOctets, WrongValue, NoSuchTime}
-use Rattle.settings.specs.Questions.{then}
-use Rattle.command.specs.Records.{HalfHourView}
+use Rattle.command.specs.declared.fault.Fault.{Fault}
+use Rattle.command.specs.declared.fault.Fault.TheVariants.{WrongLength, WrongOctets, WrongValue, NoSuchTime}
+use Rattle.command.specs.declared.half_hour.HalfHour.{HalfHour}
+use Rattle.command.specs.Questions.{then}
 
 -- the minutes and seconds of YYMMDDhhmmss are zero; '0' is 48
 abbrev pub on_the_hour : List ℕ → Bool
@@ -30,20 +31,20 @@ abbrev pub half_hours_asked : List ℕ → Result Moment Fault
 half_hours_asked xs = cond (length xs == 12) (hour_of (on_the_hour xs) (read_of xs)) (Err WrongLength)
 
 -- the demand known of a half hour after one more record: that of the record, if it is of this half hour
-abbrev pub demand_with : Moment → Option ℕ → HalfHourView → Option ℕ
-demand_with m d r = cond (same_moment m r.start) (Some r.demand) d
+abbrev pub demand_with : Moment → Option ℕ → HalfHour → Option ℕ
+demand_with m d r = cond (same_moment m (moment_of r.start)) (Some r.demand) d
 
 -- the demand of the last record that starts at a moment; d, where there is none
-abbrev pub newest_demand_or : Moment → Option ℕ → List HalfHourView → Option ℕ
+abbrev pub newest_demand_or : Moment → Option ℕ → List HalfHour → Option ℕ
 newest_demand_or m d [] = d
 newest_demand_or m d (r ∷ rs) = newest_demand_or m (demand_with m d r) rs
 
 -- the demand of the last record that starts at a moment, of records oldest first
-abbrev pub newest_demand : Moment → List HalfHourView → Option ℕ
+abbrev pub newest_demand : Moment → List HalfHour → Option ℕ
 newest_demand m rs = newest_demand_or m None rs
 
 -- a half hour after 2099 is missing
-abbrev pub demand_of : Option Moment → List HalfHourView → Option ℕ
+abbrev pub demand_of : Option Moment → List HalfHour → Option ℕ
 demand_of (Some m) rs = newest_demand m rs
 demand_of None rs = None
 
@@ -53,13 +54,13 @@ demand_octets (Some d) = four_digits d
 demand_octets None = replicate 4 32
 
 -- the n-th half hour from a moment on, of records oldest first
-abbrev pub half_hour_octets : Moment → List HalfHourView → ℕ → List ℕ
+abbrev pub half_hour_octets : Moment → List HalfHour → ℕ → List ℕ
 half_hour_octets start rs n = demand_octets (demand_of (half_hours_on n start) rs)
 
 -- the answer: the time as received, and 24 successive half hours from it on
-abbrev pub half_hours_shown : List ℕ → Moment → List HalfHourView → List ℕ
+abbrev pub half_hours_shown : List ℕ → Moment → List HalfHour → List ℕ
 half_hours_shown xs start rs = xs ++ flat_map (half_hour_octets start rs) (range_with_len 0 24)
 
 -- the half hours that the data ask for, of those that a share holds
-abbrev pub half_hours_reading : List ℕ → List HalfHourView → Result (List ℕ) Fault
-half_hours_reading xs rs = then (half_hours_asked xs) (λ start. Ok (half_hours_shown xs start rs))
+abbrev pub half_hours_reading : List ℕ → RingView → List HalfHour → Result (List ℕ) Fault
+half_hours_reading xs g places = then (half_hours_asked xs) (λ start. Ok (half_hours_shown xs start (ranked g places)))

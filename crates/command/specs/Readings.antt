@@ -2,17 +2,17 @@
 use Rattle.std.specs.Prelude.{ℕ, ◌+◌, ◌-◌, Bool, cond, ◌||◌, List, [], ◌∷◌, ◌++◌, map, length, Ok, Err, Result, ◌==◌, nat_lt, slice_index}
 use Rattle.std.specs.List.{between}
 use Rattle.frame.specs.Digits.{four_digits}
-use Rattle.settings.specs.declared.fault.Fault.{Fault}
-use Rattle.settings.specs.declared.fault.Fault.TheVariants.{WrongPoints}
-use Rattle.command.specs.declared.known.Reading.{Reading}
-use Rattle.command.specs.declared.known.Reading.TheVariants.{Limits, Timers, Present, Events, Contract, HalfHours}
+use Rattle.command.specs.declared.fault.Fault.{Fault}
+use Rattle.command.specs.declared.fault.Fault.TheVariants.{WrongPoints, NotYetBuilt}
+use Rattle.command.specs.declared.known.Command.{Command}
+use Rattle.command.specs.declared.known.Command.TheVariants.{ReadLimits, ReadTimers, ReadPresent, ReadEvents, ReadContract, Reset, ReadHalfHours, WriteSettings}
 use Rattle.command.specs.declared.point.Point.{Point}
 use Rattle.command.specs.declared.point.Point.TheVariants.{Number, Blank}
 use Rattle.command.specs.declared.points.Chosen.{Chosen}
-use Rattle.settings.specs.Table.{contract_octet}
-use Rattle.settings.specs.Questions.{then}
-use Rattle.command.specs.Questions.{start_count_of}
-use Rattle.command.specs.Stations.{Seen}
+use Rattle.command.specs.Table.{contract_octet}
+use Rattle.command.specs.Questions.{then, start_count_of}
+use Rattle.command.specs.Resets.{reset_of}
+use Rattle.command.specs.Stations.{Holding}
 use Rattle.command.specs.History.{history_reading}
 use Rattle.command.specs.HalfHours.{half_hours_reading}
 
@@ -79,15 +79,21 @@ reading content ps = then (chosen_of content (length ps)) (points_shown ps)
 abbrev pub contract_reading : List ℕ → List ℕ → Result (List ℕ) Fault
 contract_reading content page = then (chosen_of content 1) (λ x. Ok (contract page))
 
+-- what this box does not carry out yet: every request is answered abnormally
+abbrev pub not_yet_built : Result (List ℕ) Fault
+not_yet_built = Err NotYetBuilt
+
 -- 16: demand, predicted power, and the limit of 0C
 abbrev pub present : ℕ → ℕ → List ℕ → List Point
 present demand predicted page = Number demand ∷ Number predicted ∷ Number (limit page) ∷ []
 
--- the data of the answer to a reading with its data, by what the station can show
-abbrev pub content_read : Reading → List ℕ → Seen → Result (List ℕ) Fault
-content_read Limits content s = reading content (limits s.page)
-content_read Timers content s = reading content (timers s.page)
-content_read Present content s = reading content (present s.demand s.predicted s.page)
-content_read Events content s = history_reading content s.events
-content_read Contract content s = contract_reading content s.page
-content_read HalfHours content s = half_hours_reading content s.half_hours
+-- the data of the answer to a command with its data, by what the station holds
+abbrev pub content_for : Command → List ℕ → Holding → Result (List ℕ) Fault
+content_for ReadLimits content h = reading content (limits h.page)
+content_for ReadTimers content h = reading content (timers h.page)
+content_for ReadPresent content h = reading content (present h.station.demand h.station.predicted h.page)
+content_for ReadEvents content h = history_reading content h.station.events h.events
+content_for ReadContract content h = contract_reading content h.page
+content_for Reset content h = then (reset_of content) (λ r. Ok [])
+content_for ReadHalfHours content h = half_hours_reading content h.station.half_hours h.half_hours
+content_for WriteSettings content h = not_yet_built

@@ -1,12 +1,13 @@
 -- What command 54 asks for, and what it leaves.
 use Rattle.std.specs.Prelude.{ℕ, ◌/◌, ◌%◌, cond, ◌||◌, List, length, Ok, Err, Result, ◌==◌, nat_le, nat_lt, slice_index}
 use Rattle.book.specs.Ranked.{empty}
-use Rattle.settings.specs.declared.fault.Fault.{Fault}
-use Rattle.settings.specs.declared.fault.Fault.TheVariants.{WrongLength, WrongValue, WrongPoints}
+use Rattle.memory.specs.Model.{restored}
+use Rattle.command.specs.declared.fault.Fault.{Fault}
+use Rattle.command.specs.declared.fault.Fault.TheVariants.{WrongLength, WrongValue, WrongPoints}
 use Rattle.command.specs.declared.reset.Reset.{Reset}
-use Rattle.settings.specs.Questions.{then, number_at}
+use Rattle.command.specs.Questions.{then, number_at}
 use Rattle.command.specs.Stations.{StationView, Holding, holding}
-use Rattle.settings.specs.Table.{initial_page}
+use Rattle.command.specs.Table.{initial_page}
 
 -- the first of the four digits is the sum of 8 (settings), 2 (events) and 1 (half hours); the others are 0
 abbrev pub effects : ℕ → Reset
@@ -45,7 +46,20 @@ station_after r s = record {
 abbrev pub page_after : Reset → List ℕ → List ℕ
 page_after r page = cond r.settings initial_page page
 
+-- the memory afterwards
+abbrev pub pages_after : Reset → List (List ℕ) → ℕ → List (List ℕ)
+pages_after r pages k = cond r.settings (restored pages k initial_page) pages
+
 -- all that the station holds, afterwards: records stay in their places
 abbrev pub held_after : Result Reset Fault → Holding → Holding
 held_after (Ok r) h = holding (station_after r h.station) (page_after r h.page) h.events h.half_hours
 held_after (Err f) h = h
+
+-- the station and the memory after a request that may be at fault
+abbrev pub station_reset : Result Reset Fault → StationView → StationView
+station_reset (Ok r) s = station_after r s
+station_reset (Err f) s = s
+
+abbrev pub pages_reset : Result Reset Fault → List (List ℕ) → ℕ → List (List ℕ)
+pages_reset (Ok r) pages k = pages_after r pages k
+pages_reset (Err f) pages k = pages

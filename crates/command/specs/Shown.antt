@@ -3,9 +3,9 @@ use Rattle.std.specs.Prelude.{ℕ, ◌%◌, cond, List, [], ◌∷◌, ◌++◌,
 use Rattle.calendar.specs.Moment.{Moment}
 use Rattle.calendar.specs.Digits.{digits_of}
 use Rattle.frame.specs.Digits.{two_digits, four_digits}
-use Rattle.settings.specs.declared.parts.Part.{Part}
-use Rattle.settings.specs.declared.parts.Part.TheVariants.{Number, Contract, Blank}
-use Rattle.settings.specs.Parts.{parts}
+use Rattle.command.specs.declared.parts.Part.{Part}
+use Rattle.command.specs.declared.parts.Part.TheVariants.{Number, Contract, Blank}
+use Rattle.command.specs.Parts.{parts}
 use Rattle.command.specs.Readings.{contract}
 
 -- a number in a field of two digits, which keeps the low ones, or of five, where '0' stands before four

@@ -3,8 +3,8 @@ use Rattle.std.specs.Prelude.{ℕ, List, [], ◌∷◌, map, Some, None, Option}
 use Rattle.std.specs.Option.{option_map}
 use Rattle.calendar.specs.Moment.{Moment, moment_of}
 use Rattle.calendar.specs.HalfHours.{half_hours_on}
+use Rattle.command.specs.declared.half_hour.HalfHour.{HalfHour}
 use Rattle.command.specs.declared.half_hours.Slot.{Slot}
-use Rattle.command.specs.Records.{HalfHourView}
 use Rattle.command.specs.HalfHours.{demand_with, demand_octets}
 
 -- a slot as plain values: when its half hour begins, and the demand known so far
@@ -20,19 +20,19 @@ abbrev pub slot_on : Moment → ℕ → SlotView
 slot_on m n = record { start = half_hours_on n m; demand = None }
 
 -- the demand known of a slot after one more record
-abbrev pub slot_demand : Option Moment → Option ℕ → HalfHourView → Option ℕ
+abbrev pub slot_demand : Option Moment → Option ℕ → HalfHour → Option ℕ
 slot_demand (Some m) d r = demand_with m d r
 slot_demand None d r = d
 
-abbrev pub noted : HalfHourView → Slot → Slot
+abbrev pub noted : HalfHour → Slot → Slot
 noted r s = record { start = s.start; demand = slot_demand (option_map moment_of s.start) s.demand r }
 
-abbrev pub noted_if : Option HalfHourView → List Slot → List Slot
+abbrev pub noted_if : Option HalfHour → List Slot → List Slot
 noted_if (Some r) ss = map (noted r) ss
 noted_if None ss = ss
 
 -- slots after records, one after another
-abbrev pub slots_after : List Slot → List HalfHourView → List Slot
+abbrev pub slots_after : List Slot → List HalfHour → List Slot
 slots_after ss [] = ss
 slots_after ss (r ∷ rs) = slots_after (map (noted r) ss) rs
 

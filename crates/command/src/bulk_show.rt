@@ -2,15 +2,15 @@
 ghost use Rattle.std.specs.Prelude.{◌≡◌, ◌+◌, ◌≤◌, ◌++◌, replicate};
 ghost use Rattle.calendar.specs.Moment.{moment_of};
 ghost use Rattle.command.specs.Gathered.{gathered};
-ghost use Rattle.settings.specs.Parts.{digit_count, LawfulPart, width_of};
+ghost use Rattle.command.specs.Parts.{digit_count, LawfulPart, width_of};
 ghost use Rattle.command.specs.Shown.{number_shown, contract_shown, part_shown, settings_shown};
 
 use crate::content::Content;
 use crate::gather::show_text;
+use crate::parts::{Part, parts};
+use crate::settings::{CONTRACT_NUMBER, Page};
 use calendar::date_time::DateTime;
 use frame::digits::{four_digits, two_digits};
-use settings::parts::{Part, parts};
-use settings::table::{CONTRACT_NUMBER, Page};
 
 // The longest run of F that can stand in the data.
 const RUN: usize = 243;

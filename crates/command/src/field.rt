@@ -1,10 +1,9 @@
 // Fields of a command's data.
 ghost use Rattle.std.specs.Prelude.{◌≡◌, length, OnOk};
-ghost use Rattle.settings.specs.Questions.{number_at};
-ghost use Rattle.command.specs.Questions.{start_count_of};
+ghost use Rattle.command.specs.Questions.{number_at, start_count_of};
 
+use crate::fault::Fault;
 use frame::digits;
-use settings::fault::Fault;
 
 // Where the start point and the count stand in the frame.
 const START_POSITION: u8 = 8;

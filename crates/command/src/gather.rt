@@ -1,7 +1,7 @@
 // Gathering the data of an answer.
 ghost use Rattle.std.specs.Prelude.{◌≡◌, ℕ, ◌+◌, ◌*◌, ◌≤◌, List, [], ◌∷◌, ◌++◌, map, length};
 ghost use Rattle.command.specs.Gathered.{gathered};
-ghost use Rattle.settings.specs.Table.{contract_octet};
+ghost use Rattle.command.specs.Table.{contract_octet};
 ghost use Rattle.command.specs.Readings.{all_octets, sent_octet};
 
 use crate::content::{Content, MOST};

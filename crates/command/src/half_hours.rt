@@ -6,19 +6,18 @@ ghost use Rattle.std.specs.Result.{result_map_both as mapped_both};
 ghost use Rattle.book.specs.Ranked.{view_of, ranked};
 ghost use Rattle.calendar.specs.Moment.{moment_of};
 ghost use Rattle.calendar.specs.HalfHours.{then_next};
-ghost use Rattle.command.specs.Records.{half_hour_view, half_hour_views};
 ghost use Rattle.command.specs.Gathered.{gathered, gathered_in};
 ghost use Rattle.command.specs.HalfHours.{hour_fault, hour_of, half_hours_asked, demand_octets, half_hours_shown, half_hours_reading};
 ghost use Rattle.command.specs.Slots.{slot_view, slot_on, noted, noted_if, slots_after, slot_octets};
 
 use crate::content::Content;
+use crate::fault::Fault;
 use crate::half_hour::HalfHour;
 use book::read_from_share;
 use book::ring::Ring;
 use calendar::date_time::DateTime;
 use calendar::time_fault::TimeFault;
 use frame::digits::four_digits;
-use settings::fault::Fault;
 
 // Where the time, and its minutes, stand in the frame.
 const TIME_POSITION: u8 = 8;
@@ -89,7 +88,7 @@ const SHOWN: usize = 24;
 impl Slot {
     // A record of the slot's half hour takes the place of older ones.
     fn note(&mut self, held: HalfHour)
-        ensures { self.new ≡ noted (half_hour_view held) self.old }
+        ensures { self.new ≡ noted held self.old }
     {
         if let Some(start) = self.start {
             if start.same(held.start) {
@@ -130,7 +129,7 @@ fn slots_from(start: DateTime) -> [Slot; SHOWN]
 
 // Notes a record in the slots.
 fn note_in(slots: &mut [Slot; SHOWN], held: HalfHour)
-    ensures { slots.new ≡ map (noted (half_hour_view held)) slots.old }
+    ensures { slots.new ≡ map (noted held) slots.old }
 {
     for slot in slots.iter_mut() {
         slot.note(held);
@@ -139,7 +138,7 @@ fn note_in(slots: &mut [Slot; SHOWN], held: HalfHour)
 
 // Notes a record, if there is one.
 fn note_if(slots: &mut [Slot; SHOWN], held: Option<HalfHour>)
-    ensures { slots.new ≡ noted_if (option_map half_hour_view held) slots.old }
+    ensures { slots.new ≡ noted_if held slots.old }
 {
     if let Some(half_hour) = held {
         note_in(slots, half_hour);
@@ -149,7 +148,7 @@ fn note_if(slots: &mut [Slot; SHOWN], held: Option<HalfHour>)
 // The half hour of a rank, of those that a share holds, in one step.
 fn half_hour_at(ring: &Ring, places: &[HalfHour], rank: usize) -> Option<HalfHour>
     requires { length places.now ≡ (view_of ring.now).capacity }
-    ensures { option_map half_hour_view result ≡ slice_get (ranked (view_of ring.now) (half_hour_views places.now)) rank }
+    ensures { result ≡ slice_get (ranked (view_of ring.now) places.now) rank }
 {
     match read_from_share(ring, places, 0, rank) {
         Ok(held) => held,
@@ -160,7 +159,7 @@ fn half_hour_at(ring: &Ring, places: &[HalfHour], rank: usize) -> Option<HalfHou
 // Walks the held half hours once, oldest first, so that of several records of a half hour the newest stays.
 fn note_held(slots: &mut [Slot; SHOWN], ring: &Ring, places: &[HalfHour])
     requires { length places.now ≡ (view_of ring.now).capacity }
-    ensures { slots.new ≡ slots_after slots.old (ranked (view_of ring.now) (half_hour_views places.now)) }
+    ensures { slots.new ≡ slots_after slots.old (ranked (view_of ring.now) places.now) }
 {
     for rank in 0..ring.held() {
         note_if(slots, half_hour_at(ring, places, rank));
@@ -193,7 +192,7 @@ fn push_slots(content: &mut Content, slots: &[Slot; SHOWN])
 fn show_half_hours(received: &[u8], start: DateTime, ring: &Ring, places: &[HalfHour]) -> Content
     requires fits { length places.now ≡ (view_of ring.now).capacity }
     requires long { length received.now ≡ 12 }
-    ensures { gathered result ≡ half_hours_shown received.now (moment_of start) (ranked (view_of ring.now) (half_hour_views places.now)) }
+    ensures { gathered result ≡ half_hours_shown received.now (moment_of start) (ranked (view_of ring.now) places.now) }
 {
     let mut slots = slots_from(start);
     note_held(&mut slots, ring, places);
@@ -210,7 +209,7 @@ pub(crate) fn read_half_hours(
     places: &[HalfHour],
 ) -> Result<Content, Fault>
     requires { length places.now ≡ (view_of ring.now).capacity }
-    ensures { gathered_in result ≡ half_hours_reading content.now (ranked (view_of ring.now) (half_hour_views places.now)) }
+    ensures { gathered_in result ≡ half_hours_reading content.now (view_of ring.now) places.now }
 {
     let start = read_hour(content)?;
     Ok(show_half_hours(content, start, ring, places))

@@ -2,30 +2,24 @@
 ghost use Rattle.std.specs.Prelude.{◌≡◌, List, [], ◌∷◌};
 ghost use Rattle.command.specs.Commands.{command_of, answer_code};
 
-use settings::fault::Fault;
-
-// What is read: settings, present values or records. A reading leaves all as it is.
-#[derive(Clone, Copy, Debug, PartialEq, Eq)]
-pub enum Reading {
-    // 0C: CT ratio, limits, meter day and kinds of counting
-    Limits,
-    // 0F: hold timers, no-pulse wait, combined ratio
-    Timers,
-    // 16: present demand, predicted power and limit
-    Present,
-    // 18: events by rank
-    Events,
-    // 19: the contract number
-    Contract,
-    // 62: the half hours of half a day
-    HalfHours,
-}
+use crate::fault::Fault;
 
 #[derive(Clone, Copy, Debug, PartialEq, Eq)]
 pub enum Command {
-    Read(Reading),
+    // 0C: CT ratio, limits, meter day and kinds of counting
+    ReadLimits,
+    // 0F: hold timers, no-pulse wait, combined ratio
+    ReadTimers,
+    // 16: present demand, predicted power and limit
+    ReadPresent,
+    // 18: events by rank
+    ReadEvents,
+    // 19: the contract number
+    ReadContract,
     // 54: settings, events or half hours made as at first
     Reset,
+    // 62: the half hours of half a day
+    ReadHalfHours,
     // 6C: all settings and the clock, written and read
     WriteSettings,
 }
@@ -36,13 +30,13 @@ impl Command {
         ensures { result ≡ command_of octets }
     {
         match octets {
-            [b'0', b'C'] => Ok(Command::Read(Reading::Limits)),
-            [b'0', b'F'] => Ok(Command::Read(Reading::Timers)),
-            [b'1', b'6'] => Ok(Command::Read(Reading::Present)),
-            [b'1', b'8'] => Ok(Command::Read(Reading::Events)),
-            [b'1', b'9'] => Ok(Command::Read(Reading::Contract)),
+            [b'0', b'C'] => Ok(Command::ReadLimits),
+            [b'0', b'F'] => Ok(Command::ReadTimers),
+            [b'1', b'6'] => Ok(Command::ReadPresent),
+            [b'1', b'8'] => Ok(Command::ReadEvents),
+            [b'1', b'9'] => Ok(Command::ReadContract),
             [b'5', b'4'] => Ok(Command::Reset),
-            [b'6', b'2'] => Ok(Command::Read(Reading::HalfHours)),
+            [b'6', b'2'] => Ok(Command::ReadHalfHours),
             [b'6', b'C'] => Ok(Command::WriteSettings),
             _ => Err(Fault::UnknownCommand),
         }
@@ -53,13 +47,13 @@ impl Command {
         ensures { result ≡ answer_code self }
     {
         match self {
-            Command::Read(Reading::Limits) => *b"8C",
-            Command::Read(Reading::Timers) => *b"8F",
-            Command::Read(Reading::Present) => *b"96",
-            Command::Read(Reading::Events) => *b"98",
-            Command::Read(Reading::Contract) => *b"99",
+            Command::ReadLimits => *b"8C",
+            Command::ReadTimers => *b"8F",
+            Command::ReadPresent => *b"96",
+            Command::ReadEvents => *b"98",
+            Command::ReadContract => *b"99",
             Command::Reset => *b"D4",
-            Command::Read(Reading::HalfHours) => *b"E2",
+            Command::ReadHalfHours => *b"E2",
             Command::WriteSettings => *b"EC",
         }
     }

@@ -2,14 +2,14 @@
 ghost use Rattle.std.specs.Prelude.{◌≡◌, ℕ, ◌+◌, ◌-◌, ◌≤◌, List, [], ◌∷◌, length, IfOk};
 ghost use Rattle.command.specs.Readings.{chosen_of, picked, limit, limits, timers, present};
 
+use crate::fault::Fault;
 use crate::field::read_start_count;
 use crate::point::Point;
-use crate::station::Station;
-use settings::fault::Fault;
-use settings::table::{
+use crate::settings::{
     CAUTION_2, CAUTION_3, COMBINED_RATIO, CT_RATIO, DEMAND_MODE, LIMIT_2, LIMIT_3, MASK_2, MASK_3,
     MAXIMUM_RESET, METER_DAY, NO_PULSE_WAIT, OFF_HOLD, ON_HOLD, Page, SYNC_TYPE,
 };
+use crate::station::Station;
 
 // Which points of a list are asked for: so many, from the first on, counted from 0.
 #[derive(Clone, Copy)]

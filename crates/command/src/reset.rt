@@ -1,15 +1,13 @@
 // Command 54: settings, events or half hours made as at first.
-ghost use Rattle.std.specs.Prelude.{◌≡◌, length, if◌then◌else◌};
+ghost use Rattle.std.specs.Prelude.{◌≡◌, length};
 ghost use Rattle.command.specs.Stations.{station_view};
-ghost use Rattle.command.specs.Resets.{effects_of, pointed, reset_of, station_after};
-ghost use Rattle.settings.specs.Table.{initial_page};
-ghost use Rattle.memory.specs.Model.{restored};
+ghost use Rattle.command.specs.Resets.{effects_of, pointed, reset_of, station_after, pages_after};
 
+use crate::fault::Fault;
 use crate::field::number_at;
+use crate::settings::initial_page;
 use crate::station::Station;
 use memory::{SettingsMemory, restore};
-use settings::fault::Fault;
-use settings::table::initial_page;
 
 // Where the point and the four digits stand in the frame.
 const POINT_POSITION: u8 = 8;
@@ -85,7 +83,7 @@ impl Reset {
 
     // What becomes of its page.
     pub(crate) fn reset_page<M: SettingsMemory>(self, memory: &mut M, page: u16)
-        ensures { M.pages memory.new ≡ (if self.settings then restored (M.pages memory.old) page initial_page else M.pages memory.old) }
+        ensures { M.pages memory.new ≡ pages_after self (M.pages memory.old) page }
     {
         if self.settings {
             let _ = restore(memory, page, &initial_page());

@@ -1,33 +1,26 @@
 // A station's answer to a request, written to the front of a lent buffer.
-ghost use Rattle.std.specs.Prelude.{◌≡◌, ℕ, ◌+◌, ◌<◌, ◌≤◌, true, ◌&&◌, List, [], ◌∷◌, length, is_ok, Ok, ◌==◌, nat_eq, nat_le, slice_index_or, slice_set};
+ghost use Rattle.std.specs.Prelude.{◌≡◌, ℕ, ◌+◌, ◌<◌, ◌≤◌, true, ◌&&◌, List, [], ◌∷◌, length, is_ok, Ok, ◌==◌, nat_eq, nat_le};
 ghost use Rattle.frame.specs.Answers.{counted, fronted};
 ghost use Rattle.frame.specs.Requests.{asking};
 ghost use Rattle.memory.specs.Model.{loaded};
-ghost use Rattle.settings.specs.Bulk.{bulk_view};
-ghost use Rattle.settings.specs.Questions.{then};
+ghost use Rattle.command.specs.Replies.{composed_of, saying, replied_as, replied, left_by, left_of, pages_by, pages_of, said, told_with, told, shares_fit, held_by, responded, written, answer_left, station_left, pages_left};
 ghost use Rattle.command.specs.Commands.{answer_code};
-ghost use Rattle.command.specs.Gathered.{gathered};
-ghost use Rattle.command.specs.Records.{event_views, half_hour_views};
-ghost use Rattle.command.specs.Replies.{composed_of, saying, replied_as, replied, left_by, left_of, said, told_with, told, shares_fit, held_by, responded, written, answer_left, log_left, pages_left};
-ghost use Rattle.command.specs.Resets.{reset_of, held_after};
-ghost use Rattle.command.specs.Stations.{station_view, log, log_of, holding, seen};
-ghost use Rattle.command.specs.Writes.{written_by, all_shown};
+ghost use Rattle.command.specs.Questions.{then};
+ghost use Rattle.command.specs.Resets.{reset_of, station_reset, pages_reset};
+ghost use Rattle.command.specs.Stations.{station_view, holding};
 
-use crate::bulk_show::show_settings;
-use crate::compose::content_read;
+use crate::compose::content_for;
 use crate::content::Content;
 use crate::event::Event;
+use crate::fault::Fault;
 use crate::half_hour::HalfHour;
-use crate::known::{Command, Reading};
+use crate::known::Command;
 use crate::reset::read_reset;
+use crate::settings::Page;
 use crate::station::Station;
-use crate::write::{read_write, write_clock};
 use frame::answer::write_answer;
 use frame::request::Request;
 use memory::{SettingsMemory, load};
-use settings::bulk_write::BulkWrite;
-use settings::fault::Fault;
-use settings::table::Page;
 
 // What was answered: the answer's length, and the fault of an abnormal answer.
 #[derive(Clone, Copy)]
@@ -57,13 +50,10 @@ fn obey_reset<M: SettingsMemory>(
     station: &mut Station,
     memory: &mut M,
     page: u16,
-    cells: &Page,
 ) -> Result<Composed, Fault>
-    requires within { page < length (M.pages memory.old) }
-    requires loaded { cells.now ≡ slice_index_or (M.pages memory.old) page [] }
     ensures said { composed_of result ≡ then (then (reset_of content.now) (λ _. Ok [])) (λ shown. Ok (saying (answer_code Command.Reset) shown)) }
-    ensures station { station_view station.new ≡ (held_after (reset_of content.now) (holding (station_view station.old) cells.now [] [])).station }
-    ensures pages { M.pages memory.new ≡ slice_set (M.pages memory.old) page (held_after (reset_of content.now) (holding (station_view station.old) cells.now [] [])).page }
+    ensures station { station_view station.new ≡ station_reset (reset_of content.now) (station_view station.old) }
+    ensures pages { M.pages memory.new ≡ pages_reset (reset_of content.now) (M.pages memory.old) page }
 {
     let reset = read_reset(content)?;
     reset.reset_station(station);
@@ -74,51 +64,9 @@ fn obey_reset<M: SettingsMemory>(
     })
 }
 
-// Does what a bulk write says, and shows clock and settings as they then are.
-fn carry_out<M: SettingsMemory>(
-    write: &BulkWrite,
-    station: &mut Station,
-    memory: &mut M,
-    page: u16,
-    cells: &Page,
-    events: &mut [Event],
-) -> Content
-    requires events { length events.old ≡ (station_view station.old).events.capacity }
-    requires loaded { cells.now ≡ slice_index_or (M.pages memory.old) page [] }
-    ensures shown { gathered result ≡ all_shown (bulk_view write.now) (seen (holding (station_view station.old) cells.now (event_views events.old) [])) }
-    ensures log { log (station_view station.new) (event_views events.new) ≡ log_of (written_by (bulk_view write.now) (holding (station_view station.old) cells.now (event_views events.old) [])) }
-    ensures pages { M.pages memory.new ≡ slice_set (M.pages memory.old) page (written_by (bulk_view write.now) (holding (station_view station.old) cells.now (event_views events.old) [])).page }
-{
-    write_clock(write.clock, station, events);
-    write.store(memory, page);
-    show_settings(station.clock, &write.merged(cells))
-}
-
-// Writes clock and settings as the data say, once all is asked.
-fn obey_write<M: SettingsMemory>(
-    content: &[u8],
-    station: &mut Station,
-    memory: &mut M,
-    page: u16,
-    cells: &Page,
-    events: &mut [Event],
-) -> Result<Composed, Fault>
-    requires events { length events.old ≡ (station_view station.old).events.capacity }
-    requires loaded { cells.now ≡ slice_index_or (M.pages memory.old) page [] }
-    ensures said { composed_of result ≡ replied_as Command.WriteSettings content.now (holding (station_view station.old) cells.now (event_views events.old) []) }
-    ensures log { log (station_view station.new) (event_views events.new) ≡ log_of (left_by Command.WriteSettings content.now (holding (station_view station.old) cells.now (event_views events.old) [])) }
-    ensures pages { M.pages memory.new ≡ slice_set (M.pages memory.old) page (left_by Command.WriteSettings content.now (holding (station_view station.old) cells.now (event_views events.old) [])).page }
-{
-    let write = read_write(content, cells)?;
-    Ok(Composed {
-        code: Command::WriteSettings.answer_code(),
-        content: carry_out(&write, station, memory, page, cells, events),
-    })
-}
-
-// Carries out a reading: it leaves all as it is.
+// Carries out a command other than a reset: it leaves all as it is.
 fn obey_reading(
-    reading: Reading,
+    command: Command,
     content: &[u8],
     station: &Station,
     page: &Page,
@@ -127,11 +75,11 @@ fn obey_reading(
 ) -> Result<Composed, Fault>
     requires events { length events.now ≡ (station_view station.now).events.capacity }
     requires half_hours { length half_hours.now ≡ (station_view station.now).half_hours.capacity }
-    ensures { composed_of result ≡ replied_as (Command.Read reading) content.now (holding (station_view station.now) page.now (event_views events.now) (half_hour_views half_hours.now)) }
+    ensures { composed_of result ≡ replied_as command content.now (holding (station_view station.now) page.now events.now half_hours.now) }
 {
-    let content = content_read(reading, content, station, page, events, half_hours)?;
+    let content = content_for(command, content, station, page, events, half_hours)?;
     Ok(Composed {
-        code: Command::Read(reading).answer_code(),
+        code: command.answer_code(),
         content,
     })
 }
@@ -144,23 +92,28 @@ fn obey<M: SettingsMemory>(
     memory: &mut M,
     page: u16,
     cells: &Page,
-    events: &mut [Event],
+    events: &[Event],
     half_hours: &[HalfHour],
 ) -> Result<Composed, Fault>
-    requires events { length events.old ≡ (station_view station.old).events.capacity }
+    requires events { length events.now ≡ (station_view station.old).events.capacity }
     requires half_hours { length half_hours.now ≡ (station_view station.old).half_hours.capacity }
-    requires within { page < length (M.pages memory.old) }
-    requires loaded { cells.now ≡ slice_index_or (M.pages memory.old) page [] }
-    ensures said { composed_of result ≡ replied_as command content.now (holding (station_view station.old) cells.now (event_views events.old) (half_hour_views half_hours.now)) }
-    ensures log { log (station_view station.new) (event_views events.new) ≡ log_of (left_by command content.now (holding (station_view station.old) cells.now (event_views events.old) (half_hour_views half_hours.now))) }
-    ensures pages { M.pages memory.new ≡ slice_set (M.pages memory.old) page (left_by command content.now (holding (station_view station.old) cells.now (event_views events.old) (half_hour_views half_hours.now))).page }
+    ensures said { composed_of result ≡ replied_as command content.now (holding (station_view station.old) cells.now events.now half_hours.now) }
+    ensures station { station_view station.new ≡ (left_by command content.now (holding (station_view station.old) cells.now events.now half_hours.now)).station }
+    ensures pages { M.pages memory.new ≡ pages_by command content.now (M.pages memory.old) page }
 {
     match command {
-        Command::Read(reading) => obey_reading(
-            reading, content, station, cells, events, half_hours,
+        Command::Reset => obey_reset(content, station, memory, page),
+        Command::ReadLimits => obey_reading(command, content, station, cells, events, half_hours),
+        Command::ReadTimers => obey_reading(command, content, station, cells, events, half_hours),
+        Command::ReadPresent => obey_reading(command, content, station, cells, events, half_hours),
+        Command::ReadEvents => obey_reading(command, content, station, cells, events, half_hours),
+        Command::ReadContract => obey_reading(command, content, station, cells, events, half_hours),
+        Command::ReadHalfHours => obey_reading(
+            command, content, station, cells, events, half_hours,
         ),
-        Command::Reset => obey_reset(content, station, memory, page, cells),
-        Command::WriteSettings => obey_write(content, station, memory, page, cells, events),
+        Command::WriteSettings => obey_reading(
+            command, content, station, cells, events, half_hours,
+        ),
     }
 }
 
@@ -171,16 +124,14 @@ fn compose<M: SettingsMemory>(
     memory: &mut M,
     page: u16,
     cells: &Page,
-    events: &mut [Event],
+    events: &[Event],
     half_hours: &[HalfHour],
 ) -> Result<Composed, Fault>
-    requires events { length events.old ≡ (station_view station.old).events.capacity }
+    requires events { length events.now ≡ (station_view station.old).events.capacity }
     requires half_hours { length half_hours.now ≡ (station_view station.old).half_hours.capacity }
-    requires within { page < length (M.pages memory.old) }
-    requires loaded { cells.now ≡ slice_index_or (M.pages memory.old) page [] }
-    ensures said { composed_of result ≡ replied (asking request.now) (holding (station_view station.old) cells.now (event_views events.old) (half_hour_views half_hours.now)) }
-    ensures log { log (station_view station.new) (event_views events.new) ≡ log_of (left_of (asking request.now) (holding (station_view station.old) cells.now (event_views events.old) (half_hour_views half_hours.now))) }
-    ensures pages { M.pages memory.new ≡ slice_set (M.pages memory.old) page (left_of (asking request.now) (holding (station_view station.old) cells.now (event_views events.old) (half_hour_views half_hours.now))).page }
+    ensures said { composed_of result ≡ replied (asking request.now) (holding (station_view station.old) cells.now events.now half_hours.now) }
+    ensures station { station_view station.new ≡ (left_of (asking request.now) (holding (station_view station.old) cells.now events.now half_hours.now)).station }
+    ensures pages { M.pages memory.new ≡ pages_of (asking request.now) (M.pages memory.old) page }
 {
     let command = Command::read(request.command)?;
     obey(
@@ -242,19 +193,11 @@ fn write_reply(
     }
 }
 
-// Whether a station's rings have so many places.
-fn rings_have(station: &Station, events: usize, half_hours: usize) -> bool
+// Whether a station's shares have as many places as their rings.
+fn shares_fit(station: &Station, events: usize, half_hours: usize) -> bool
     ensures { result ≡ (events == (station_view station.now).events.capacity && nat_eq half_hours (station_view station.now).half_hours.capacity) }
 {
     events == station.events.capacity() && half_hours == station.half_hours.capacity()
-}
-
-// Whether a station's shares have as many places as their rings.
-fn shares_fit(station: &Station, events: &[Event], half_hours: &[HalfHour]) -> bool
-    ensures same { result ≡ shares_fit (station_view station.now) (event_views events.now) (half_hour_views half_hours.now) }
-    ensures fit { result ≡ true → (length events.now ≡ (station_view station.now).events.capacity) × (length half_hours.now ≡ (station_view station.now).half_hours.capacity) }
-{
-    rings_have(station, events.len(), half_hours.len())
 }
 
 // Answers once all that it needs is there: the page as it is, shares that fit, and room.
@@ -264,19 +207,17 @@ fn answer_with<M: SettingsMemory>(
     memory: &mut M,
     page: u16,
     cells: &Page,
-    events: &mut [Event],
+    events: &[Event],
     half_hours: &[HalfHour],
     answer: &mut [u8],
 ) -> Result<Reply, Unanswered>
-    requires events { length events.old ≡ (station_view station.old).events.capacity }
+    requires events { length events.now ≡ (station_view station.old).events.capacity }
     requires half_hours { length half_hours.now ≡ (station_view station.old).half_hours.capacity }
-    requires within { page < length (M.pages memory.old) }
-    requires loaded { cells.now ≡ slice_index_or (M.pages memory.old) page [] }
     requires room { 567 ≤ length answer.old }
-    ensures told { result ≡ told (length answer.old) (replied (asking request.now) (holding (station_view station.old) cells.now (event_views events.old) (half_hour_views half_hours.now))) }
-    ensures wrote { answer.new ≡ written (asking request.now) (said (replied (asking request.now) (holding (station_view station.old) cells.now (event_views events.old) (half_hour_views half_hours.now)))) answer.old }
-    ensures log { log (station_view station.new) (event_views events.new) ≡ log_of (left_of (asking request.now) (holding (station_view station.old) cells.now (event_views events.old) (half_hour_views half_hours.now))) }
-    ensures pages { M.pages memory.new ≡ slice_set (M.pages memory.old) page (left_of (asking request.now) (holding (station_view station.old) cells.now (event_views events.old) (half_hour_views half_hours.now))).page }
+    ensures told { result ≡ told (length answer.old) (replied (asking request.now) (holding (station_view station.old) cells.now events.now half_hours.now)) }
+    ensures wrote { answer.new ≡ written (asking request.now) (said (replied (asking request.now) (holding (station_view station.old) cells.now events.now half_hours.now))) answer.old }
+    ensures station { station_view station.new ≡ (left_of (asking request.now) (holding (station_view station.old) cells.now events.now half_hours.now)).station }
+    ensures pages { M.pages memory.new ≡ pages_of (asking request.now) (M.pages memory.old) page }
     ensures answers { is_ok result ≡ true }
 {
     let composed = compose(request, station, memory, page, cells, events, half_hours);
@@ -296,21 +237,21 @@ fn attempt<M: SettingsMemory>(
     station: &mut Station,
     memory: &mut M,
     page: u16,
-    events: &mut [Event],
+    events: &[Event],
     half_hours: &[HalfHour],
     answer: &mut [u8],
 ) -> Result<Reply, Unanswered>
-    ensures told { result ≡ responded (asking request.now) (held_by (station_view station.old) (event_views events.old) (half_hour_views half_hours.now) (loaded (M.pages memory.old) page) (length answer.old)) (length answer.old) }
-    ensures wrote { answer.new ≡ answer_left (asking request.now) (held_by (station_view station.old) (event_views events.old) (half_hour_views half_hours.now) (loaded (M.pages memory.old) page) (length answer.old)) answer.old }
-    ensures log { log (station_view station.new) (event_views events.new) ≡ log_left (asking request.now) (held_by (station_view station.old) (event_views events.old) (half_hour_views half_hours.now) (loaded (M.pages memory.old) page) (length answer.old)) (log (station_view station.old) (event_views events.old)) }
-    ensures pages { M.pages memory.new ≡ pages_left (asking request.now) (held_by (station_view station.old) (event_views events.old) (half_hour_views half_hours.now) (loaded (M.pages memory.old) page) (length answer.old)) (M.pages memory.old) page }
+    ensures told { result ≡ responded (asking request.now) (held_by (station_view station.old) events.now half_hours.now (loaded (M.pages memory.old) page) (length answer.old)) (length answer.old) }
+    ensures wrote { answer.new ≡ answer_left (asking request.now) (held_by (station_view station.old) events.now half_hours.now (loaded (M.pages memory.old) page) (length answer.old)) answer.old }
+    ensures station { station_view station.new ≡ station_left (asking request.now) (held_by (station_view station.old) events.now half_hours.now (loaded (M.pages memory.old) page) (length answer.old)) (station_view station.old) }
+    ensures pages { M.pages memory.new ≡ pages_left (asking request.now) (held_by (station_view station.old) events.now half_hours.now (loaded (M.pages memory.old) page) (length answer.old)) (M.pages memory.old) page }
     ensures sizes { ((station_view station.new).events.capacity ≡ (station_view station.old).events.capacity) × ((station_view station.new).half_hours.capacity ≡ (station_view station.old).half_hours.capacity) }
-    ensures answers { page < length (M.pages memory.old) → shares_fit (station_view station.old) (event_views events.old) (half_hour_views half_hours.now) ≡ true → 567 ≤ length answer.old → is_ok result ≡ true }
+    ensures answers { page < length (M.pages memory.old) → shares_fit (station_view station.old) events.now half_hours.now ≡ true → 567 ≤ length answer.old → is_ok result ≡ true }
 {
     let Ok(cells) = load(memory, page) else {
         return Err(Unanswered::NoPage);
     };
-    if !shares_fit(station, events, half_hours) {
+    if !shares_fit(station, events.len(), half_hours.len()) {
         return Err(Unanswered::WrongShare);
     }
     if !roomy(answer.len()) {
@@ -328,16 +269,16 @@ pub fn respond<M: SettingsMemory>(
     station: &mut Station,
     memory: &mut M,
     page: u16,
-    events: &mut [Event],
+    events: &[Event],
     half_hours: &[HalfHour],
     answer: &mut [u8],
 ) -> Result<Reply, Unanswered>
-    ensures told { result ≡ responded (asking request.now) (held_by (station_view station.old) (event_views events.old) (half_hour_views half_hours.now) (loaded (M.pages memory.old) page) (length answer.old)) (length answer.old) }
-    ensures wrote { answer.new ≡ answer_left (asking request.now) (held_by (station_view station.old) (event_views events.old) (half_hour_views half_hours.now) (loaded (M.pages memory.old) page) (length answer.old)) answer.old }
-    ensures log { log (station_view station.new) (event_views events.new) ≡ log_left (asking request.now) (held_by (station_view station.old) (event_views events.old) (half_hour_views half_hours.now) (loaded (M.pages memory.old) page) (length answer.old)) (log (station_view station.old) (event_views events.old)) }
-    ensures pages { M.pages memory.new ≡ pages_left (asking request.now) (held_by (station_view station.old) (event_views events.old) (half_hour_views half_hours.now) (loaded (M.pages memory.old) page) (length answer.old)) (M.pages memory.old) page }
+    ensures told { result ≡ responded (asking request.now) (held_by (station_view station.old) events.now half_hours.now (loaded (M.pages memory.old) page) (length answer.old)) (length answer.old) }
+    ensures wrote { answer.new ≡ answer_left (asking request.now) (held_by (station_view station.old) events.now half_hours.now (loaded (M.pages memory.old) page) (length answer.old)) answer.old }
+    ensures station { station_view station.new ≡ station_left (asking request.now) (held_by (station_view station.old) events.now half_hours.now (loaded (M.pages memory.old) page) (length answer.old)) (station_view station.old) }
+    ensures pages { M.pages memory.new ≡ pages_left (asking request.now) (held_by (station_view station.old) events.now half_hours.now (loaded (M.pages memory.old) page) (length answer.old)) (M.pages memory.old) page }
     ensures sizes { ((station_view station.new).events.capacity ≡ (station_view station.old).events.capacity) × ((station_view station.new).half_hours.capacity ≡ (station_view station.old).half_hours.capacity) }
-    ensures answers { page < length (M.pages memory.old) → shares_fit (station_view station.old) (event_views events.old) (half_hour_views half_hours.now) ≡ true → 567 ≤ length answer.old → is_ok result ≡ true }
+    ensures answers { page < length (M.pages memory.old) → shares_fit (station_view station.old) events.now half_hours.now ≡ true → 567 ≤ length answer.old → is_ok result ≡ true }
 {
     attempt(request, station, memory, page, events, half_hours, answer)
 }

@@ -1,14 +1,3 @@
 pub mod Roll
-pub mod Serving
 pub mod Tables
-pub mod ReadShares
-pub mod RunShares
-pub mod RunStation
-pub mod RunPlaces
-pub mod RunStory
-pub mod StoryLists
-pub mod StorySettings
-pub mod StoryPresent
-pub mod StoryHistory
-pub mod StoryAnswers
-pub mod StoryKept
+pub mod Serving

@@ -1,25 +1,26 @@
 -- One frame that a station answers, as the definitions have it.
-use Rattle.std.proofs.Common.{◌≡◌, ℕ, ◌+◌, ◌-◌, ◌*◌, ◌<◌, ◌≤◌, min, Bool, true, false, cond, ltb, leb, List, [], ◌∷◌, ◌++◌, length, get_or, take, drop, set, Some, None, Ok, Err, Option, Result, sym, refl, ap, ◌∙◌, inl, inr, add-mul, arith}
+use Rattle.std.proofs.Common.{◌≡◌, ℕ, ◌+◌, ◌-◌, ◌*◌, ◌<◌, ◌≤◌, min, true, cond, ltb, leb, List, [], ◌++◌, length, get_or, take, drop, set, Some, Ok, Err, Result, sym, refl, ap, ◌∙◌, inl, inr, add-mul, arith}
 use Rattle.std.proofs.lemmas.List.{length-append, length-take, length-drop}
 use Rattle.std.proofs.lemmas.Nat.{mul-le}
 use Rattle.std.proofs.lemmas.Bool.{cases_Bool, cond-true, cond-false, lt-ltb, le-leb, eq-eqb, and_from}
-use Rattle.frame.specs.declared.answer.NoRoom.{NoRoom}
 use Rattle.frame.specs.declared.fault.Fault.{Fault}
-use Rattle.frame.specs.Requests.{Asked, verified, summed, asked_by, after_verifying, unsealed, opened}
-use Rattle.frame.specs.Answers.{answer_of, room, counted, fronted}
+use Rattle.frame.specs.Requests.{Asked, verified, asked_by, after_verifying, opened}
+use Rattle.frame.specs.Answers.{answer_of, room, fronted}
 use Rattle.memory.specs.Model.{loaded}
-use Rattle.book.specs.Ranked.{share, with_share}
-use Rattle.settings.specs.declared.fault.Fault.{Fault as CommandFault}
-use Rattle.command.specs.Records.{EventView, HalfHourView}
+use Rattle.book.specs.Ranked.{share}
+use Rattle.command.specs.declared.event.Event.{Event}
+use Rattle.command.specs.declared.fault.Fault.{Fault as CommandFault}
+use Rattle.command.specs.declared.half_hour.HalfHour.{HalfHour}
 use Rattle.command.specs.declared.known.Command.{Command}
 use Rattle.command.specs.declared.respond.Reply.{Reply}
 use Rattle.command.specs.declared.respond.Unanswered.{Unanswered}
 use Rattle.command.specs.declared.respond.Unanswered.TheVariants.{WrongShare, NoRoom as no_room}
-use Rattle.command.specs.Stations.{StationView, Holding, holding, Seen, seen}
+use Rattle.command.specs.Stations.{StationView, Holding, holding}
 use Rattle.command.specs.Commands.{command_of, answer_code}
-use Rattle.settings.specs.Questions.{then}
-use Rattle.command.specs.Replies.{Saying, saying, content_for, said, fault_in, replied, left_of, told_with, told, shares_fit, held_by, responded, answer_left}
-use Rattle.line.specs.Receiving.{place_of, nobody, Lent, held_at, Outcome, outcome, octets_of, told_of, fronted_by, served, dispatched}
+use Rattle.command.specs.Questions.{then}
+use Rattle.command.specs.Readings.{content_for}
+use Rattle.command.specs.Replies.{Saying, saying, said, fault_in, replied, left_of, told_with, told, shares_fit, held_by, responded, answer_left}
+use Rattle.line.specs.Receiving.{place_of, nobody, Lent, held_at, outcome, octets_of, told_of, fronted_by, served, dispatched}
 
 clash : {X : Type 0} → ◌≡◌ {A = ℕ} 0 1 → X
 clash z = absurd (let no_way : ⊥ = omega arith in no_way)
@@ -29,7 +30,7 @@ verified_four : (v : Result (Unit {0}) Fault) (body : List ℕ) (a : Asked) → 
 verified_four (Ok u) body a e = let same : a ≡ asked_by body = cc in ap (λ (x : Asked). length x.address) same
 verified_four (Err f) body a e = clash (cc)
 
-pub address_four : (xs : List ℕ) (a : Asked) → Ok a ≡ opened xs → length a.address ≡ 4
+address_four : (xs : List ℕ) (a : Asked) → Ok a ≡ opened xs → length a.address ≡ 4
 address_four xs a e = elim (cases_Bool (ltb (length xs) 8)) [
   | inl short ↦ let no = e ∙ cond-true _ _ _ short in clash (cc)
   | inr long ↦ verified_four (verified (take (length xs - 2) xs) (drop (length xs - 2) xs)) (take (length xs - 2) xs) a (e ∙ cond-false _ _ _ long)
@@ -40,12 +41,12 @@ content_two : (c : Command) (r : Result (List ℕ) CommandFault) → length (sai
 content_two c (Ok content) = refl
 content_two c (Err f) = refl
 
-command_two : (a : Asked) (s : Seen) (r : Result Command CommandFault) → length (said (then r (λ c. then (content_for c a.content s) (λ content. Ok (saying (answer_code c) content))))).code ≡ 2
-command_two a s (Ok c) = content_two c (content_for c a.content s)
-command_two a s (Err f) = refl
+command_two : (a : Asked) (h : Holding) (r : Result Command CommandFault) → length (said (then r (λ c. then (content_for c a.content h) (λ content. Ok (saying (answer_code c) content))))).code ≡ 2
+command_two a h (Ok c) = content_two c (content_for c a.content h)
+command_two a h (Err f) = refl
 
 code_two : (a : Asked) (h : Holding) → length (said (replied a h)).code ≡ 2
-code_two a h = command_two a (seen h) (command_of a.command)
+code_two a h = command_two a h (command_of a.command)
 
 length-answer : (address command content : List ℕ) → length address ≡ 4 → length command ≡ 2 → length (answer_of address command content) ≡ 11 + length content
 length-answer address command content four two = simp length-append (omega arith)
@@ -90,13 +91,13 @@ module _ (x : Lent) (s : StationView) (n k : ℕ)
     (half_hours_sized : s.half_hours.capacity ≡ x.half_hour_share)
     (events_fit : length x.events ≡ n * x.event_share)
     (half_hours_fit : length x.half_hours ≡ n * x.half_hour_share) where
-  pub fit_is : (events : List EventView) (half_hours : List HalfHourView) → events ≡ share x.event_share k x.events → half_hours ≡ share x.half_hour_share k x.half_hours → shares_fit s events half_hours ≡ true
+  pub fit_is : (events : List Event) (half_hours : List HalfHour) → events ≡ share x.event_share k x.events → half_hours ≡ share x.half_hour_share k x.half_hours → shares_fit s events half_hours ≡ true
   fit_is events half_hours e h =
       and_from _ _
       (eq-eqb _ _ (ap length e ∙ length-share k n x.event_share x.events among events_fit ∙ sym events_sized))
       (eq-eqb _ _ (ap length h ∙ length-share k n x.half_hour_share x.half_hours among half_hours_fit ∙ sym half_hours_sized))
 
-  pub held_is : (events : List EventView) (half_hours : List HalfHourView) → events ≡ share x.event_share k x.events → half_hours ≡ share x.half_hour_share k x.half_hours → s ≡ get_or x.stations k nobody → k < length x.pages → (n : ℕ) → 567 ≤ n → held_by s events half_hours (loaded x.pages k) n ≡ Ok (held_at x k)
+  pub held_is : (events : List Event) (half_hours : List HalfHour) → events ≡ share x.event_share k x.events → half_hours ≡ share x.half_hour_share k x.half_hours → s ≡ get_or x.stations k nobody → k < length x.pages → (n : ℕ) → 567 ≤ n → held_by s events half_hours (loaded x.pages k) n ≡ Ok (held_at x k)
   held_is events half_hours e h here within n wide =
       ap (λ l. held_by s events half_hours l n) (cond-true _ _ _ (lt-ltb k (length x.pages) within))
       ∙ cond-true (shares_fit s events half_hours) (cond (leb 567 n) (Ok (holding s (get_or x.pages k []) events half_hours)) (Err no_room)) (Err WrongShare) (fit_is events half_hours e h)
@@ -118,15 +119,11 @@ module _ (a : Asked) (x : Lent) (k : ℕ) (xs : List ℕ) (reply : Reply) (buffe
   wrote_is : out ≡ fronted a.address (said answer).code (said answer).content buffer
   wrote_is = wrote ∙ ap (λ p. answer_left a p buffer) has
 
-  pub served_is : (stations : List StationView) (pages : List (List ℕ)) (events : List EventView)
-      → stations ≡ set x.stations k (left_of a (held_at x k)).station → pages ≡ set x.pages k (left_of a (held_at x k)).page
-      → events ≡ with_share x.event_share k (left_of a (held_at x k)).events x.events
-      → outcome (Ok (Some reply)) out stations pages events ≡ dispatched x buffer (opened xs)
-  served_is stations pages events e f g =
-      ap (λ r. outcome (Ok (Some r)) out stations pages events) (reply_is a answer reply buffer out (address_four xs a asked) (code_two a (held_at x k)) tells_is wrote_is)
-      ∙ ap (λ o. outcome (told_of (octets_of a (said answer)) answer) o stations pages events) (out_is a answer reply buffer out (address_four xs a asked) (code_two a (held_at x k)) tells_is wrote_is)
-      ∙ ap (λ t. outcome (told_of (octets_of a (said answer)) answer) (fronted_by (octets_of a (said answer)) buffer) t pages events) e
-      ∙ ap (λ t. outcome (told_of (octets_of a (said answer)) answer) (fronted_by (octets_of a (said answer)) buffer) (set x.stations k (left_of a (held_at x k)).station) t events) f
-      ∙ ap (outcome (told_of (octets_of a (said answer)) answer) (fronted_by (octets_of a (said answer)) buffer) (set x.stations k (left_of a (held_at x k)).station) (set x.pages k (left_of a (held_at x k)).page)) g
+  pub served_is : (stations : List StationView) (pages : List (List ℕ)) → stations ≡ set x.stations k (left_of a (held_at x k)).station → pages ≡ set x.pages k (left_of a (held_at x k)).page → outcome (Ok (Some reply)) out stations pages ≡ dispatched x buffer (opened xs)
+  served_is stations pages e f =
+      ap (λ r. outcome (Ok (Some r)) out stations pages) (reply_is a answer reply buffer out (address_four xs a asked) (code_two a (held_at x k)) tells_is wrote_is)
+      ∙ ap (λ o. outcome (told_of (octets_of a (said answer)) answer) o stations pages) (out_is a answer reply buffer out (address_four xs a asked) (code_two a (held_at x k)) tells_is wrote_is)
+      ∙ ap (λ t. outcome (told_of (octets_of a (said answer)) answer) (fronted_by (octets_of a (said answer)) buffer) t pages) e
+      ∙ ap (λ t. outcome (told_of (octets_of a (said answer)) answer) (fronted_by (octets_of a (said answer)) buffer) (set x.stations k (left_of a (held_at x k)).station) t) f
       ∙ ap (served a x buffer) place
       ∙ ap (dispatched x buffer) asked

@@ -4,7 +4,7 @@ use Rattle.frame.specs.declared.station_number.StationNumber.{StationNumber}
 use Rattle.frame.specs.Reception.{idle}
 use Rattle.book.specs.Ranked.{RingView, empty}
 use Rattle.command.specs.Stations.{StationView, as_enrolled}
-use Rattle.settings.specs.Table.{initial_page}
+use Rattle.command.specs.Table.{initial_page}
 use Rattle.line.specs.declared.refusal.Refusal.{Refusal}
 use Rattle.line.specs.declared.refusal.Refusal.TheVariants.{NotNew, WrongStationCount, WrongStationNumber, RepeatedNumber, TooFewPages, WrongEventBook, WrongHalfHourBook}
 use Rattle.line.specs.Lines.{LineView}

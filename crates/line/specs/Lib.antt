@@ -3,8 +3,3 @@ pub mod Refusals
 pub mod Lines
 pub mod Enrolling
 pub mod Receiving
-pub mod Calling
-pub mod Reading
-pub mod Runs
-pub mod Stories
-pub mod Promise

@@ -1,4 +1,4 @@
--- What receiving one signal tells, and how it leaves the line, the memory, the books and the answer buffer.
+-- What receiving one signal tells, and how it leaves the line and the answer buffer.
 use Rattle.std.specs.Prelude.{ℕ, ◌+◌, ◌*◌, cond, ◌&&◌, List, [], ◌∷◌, ◌++◌, length, drop, Some, None, Ok, Err, Option, Result, ◌==◌, nat_lt, slice_index_or, slice_set}
 use Rattle.frame.specs.declared.fault.Fault.{Fault}
 use Rattle.frame.specs.declared.fault.Fault.TheVariants.{UnknownStation}
@@ -7,10 +7,11 @@ use Rattle.frame.specs.declared.station_number.StationNumber.{StationNumber}
 use Rattle.frame.specs.Reception.{Link, Told, step}
 use Rattle.frame.specs.Requests.{Asked, opened}
 use Rattle.frame.specs.Answers.{answer_of}
-use Rattle.settings.specs.declared.fault.Fault.{Fault as CommandFault}
+use Rattle.command.specs.declared.fault.Fault.{Fault as CommandFault}
 use Rattle.command.specs.declared.respond.Reply.{Reply}
-use Rattle.book.specs.Ranked.{share, with_share, empty}
-use Rattle.command.specs.Records.{EventView, HalfHourView}
+use Rattle.book.specs.Ranked.{share, empty}
+use Rattle.command.specs.declared.event.Event.{Event}
+use Rattle.command.specs.declared.half_hour.HalfHour.{HalfHour}
 use Rattle.command.specs.Stations.{StationView, as_enrolled, Holding, holding}
 use Rattle.command.specs.Replies.{Saying, said, fault_in, replied, left_of}
 use Rattle.line.specs.declared.reception.Reception.{Reception}
@@ -61,16 +62,15 @@ place_of None ss = Err UnknownStation
 abbrev pub nobody : StationView
 nobody = as_enrolled 0 (empty 1) (empty 1)
 
--- what is told of a frame, and how buffer, stations, memory and events are left
+-- what is told of a frame, and how buffer, stations and memory are left
 pub record Outcome : Type 0 where
   pub told : Result (Option Reply) Fault
   pub answer : List ℕ
   pub stations : List StationView
   pub pages : List (List ℕ)
-  pub events : List EventView
 
-abbrev pub outcome : Result (Option Reply) Fault → List ℕ → List StationView → List (List ℕ) → List EventView → Outcome
-outcome t buffer stations pages events = record { told = t; answer = buffer; stations = stations; pages = pages; events = events }
+abbrev pub outcome : Result (Option Reply) Fault → List ℕ → List StationView → List (List ℕ) → Outcome
+outcome t buffer stations pages = record { told = t; answer = buffer; stations = stations; pages = pages }
 
 -- the octets of an answer
 abbrev pub octets_of : Asked → Saying → List ℕ
@@ -88,20 +88,10 @@ fronted_by octets buffer = octets ++ drop (length octets) buffer
 pub record Lent : Type 0 where
   pub stations : List StationView
   pub pages : List (List ℕ)
-  pub events : List EventView
+  pub events : List Event
   pub event_share : ℕ
-  pub half_hours : List HalfHourView
+  pub half_hours : List HalfHour
   pub half_hour_share : ℕ
-
-abbrev pub lent : List StationView → List (List ℕ) → List EventView → ℕ → List HalfHourView → ℕ → Lent
-lent stations pages events event_share half_hours half_hour_share = record {
-  stations = stations;
-  pages = pages;
-  events = events;
-  event_share = event_share;
-  half_hours = half_hours;
-  half_hour_share = half_hour_share;
-}
 
 -- what the station at place k holds: page k, and share k of each book
 abbrev pub held_at : Lent → ℕ → Holding
@@ -109,7 +99,7 @@ held_at x k = holding (slice_index_or x.stations k nobody) (slice_index_or x.pag
 
 -- nothing but a fault, or nothing at all, is told: all stays
 abbrev pub silent : Result (Option Reply) Fault → Lent → List ℕ → Outcome
-silent t x buffer = outcome t buffer x.stations x.pages x.events
+silent t x buffer = outcome t buffer x.stations x.pages
 
 -- the station at place k answers by what it holds, and of that only its own is left otherwise
 abbrev pub answered_at : Asked → Lent → List ℕ → ℕ → Outcome
@@ -118,7 +108,6 @@ answered_at a x buffer k =
     (fronted_by (octets_of a (said (replied a (held_at x k)))) buffer)
     (slice_set x.stations k (left_of a (held_at x k)).station)
     (slice_set x.pages k (left_of a (held_at x k)).page)
-    (with_share x.event_share k (left_of a (held_at x k)).events x.events)
 
 abbrev pub served : Asked → Lent → List ℕ → Result ℕ Fault → Outcome
 served a x buffer (Ok k) = answered_at a x buffer k
@@ -143,14 +132,21 @@ reception_of (Err e) = Dropped e
 -- what a caller lends to a call: the memory's pages and both books
 pub record Loan : Type 0 where
   pub pages : List (List ℕ)
-  pub events : List EventView
-  pub half_hours : List HalfHourView
+  pub events : List Event
+  pub half_hours : List HalfHour
 
-abbrev pub loan : List (List ℕ) → List EventView → List HalfHourView → Loan
+abbrev pub loan : List (List ℕ) → List Event → List HalfHour → Loan
 loan pages events half_hours = record { pages = pages; events = events; half_hours = half_hours }
 
 abbrev pub lent_to : LineView → Loan → Lent
-lent_to l x = lent l.stations x.pages x.events l.event_share x.half_hours l.half_hour_share
+lent_to l x = record {
+  stations = l.stations;
+  pages = x.pages;
+  events = x.events;
+  event_share = l.event_share;
+  half_hours = x.half_hours;
+  half_hour_share = l.half_hour_share;
+}
 
 -- what an admitted signal comes to
 abbrev pub heard : LineView → Signal → Loan → List ℕ → Outcome
@@ -183,6 +179,3 @@ answer_after l s x buffer = after (asked_of l x buffer) buffer (heard l s x buff
 
 abbrev pub pages_after : LineView → Signal → Loan → List ℕ → List (List ℕ)
 pages_after l s x buffer = after (asked_of l x buffer) x.pages (heard l s x buffer).pages
-
-abbrev pub events_after : LineView → Signal → Loan → List ℕ → List EventView
-events_after l s x buffer = after (asked_of l x buffer) x.events (heard l s x buffer).events

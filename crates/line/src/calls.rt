@@ -2,9 +2,7 @@
 ghost use Rattle.std.specs.Prelude.{◌≡◌, ℕ, ◌+◌, ◌*◌, ◌<◌, ◌≤◌, length, OnOk};
 ghost use Rattle.frame.specs.Reception.{step};
 ghost use Rattle.line.specs.Lines.{line_view};
-ghost use Rattle.line.specs.Receiving.{enrolled_asked, pages_present_asked, books_asked, room_asked, receiving_asked, loan, heard, reception_of, line_heard, reception_after, line_after, answer_after, pages_after, events_after};
-ghost use Rattle.command.specs.Records.{event_views, half_hour_views};
-ghost use Rattle.line.specs.Calling.{book_asked};
+ghost use Rattle.line.specs.Receiving.{enrolled_asked, pages_present_asked, books_asked, room_asked, receiving_asked, loan, heard, reception_of, line_heard, reception_after, line_after, answer_after, pages_after};
 
 use crate::line::Line;
 use crate::reception::Reception;
@@ -38,7 +36,7 @@ impl Line {
         self.count
     }
 
-    pub(crate) fn enrolled_asked(&self) -> Result<(), Refusal>
+    fn enrolled_asked(&self) -> Result<(), Refusal>
         ensures { result ≡ enrolled_asked (line_view self.now) }
     {
         if self.station_count() == 0 {
@@ -57,20 +55,7 @@ impl Line {
         Ok(())
     }
 
-    // Whether a book with shares of a size has its enrolled length.
-    pub(crate) fn book_asked(&self, share: usize, places: usize) -> Result<(), Refusal>
-        requires { share ≤ 5000 }
-        ensures asked { result ≡ book_asked (line_view self.now) share places }
-        ensures fit { OnOk result (places ≡ self.now.count * share) }
-    {
-        if places == self.station_count() * share {
-            Ok(())
-        } else {
-            Err(Refusal::WrongBookLength)
-        }
-    }
-
-    fn lengths_asked(&self, events: usize, half_hours: usize) -> Result<(), Refusal>
+    fn books_asked(&self, events: usize, half_hours: usize) -> Result<(), Refusal>
         ensures asked { result ≡ books_asked (line_view self.now) events half_hours }
         ensures fit { OnOk result ((events ≡ self.now.count * self.now.event_share) × (half_hours ≡ self.now.count * self.now.half_hour_share)) }
     {
@@ -82,24 +67,17 @@ impl Line {
         }
     }
 
-    fn books_asked(&self, events: &[Event], half_hours: &[HalfHour]) -> Result<(), Refusal>
-        ensures asked { result ≡ books_asked (line_view self.now) (length (event_views events.now)) (length (half_hour_views half_hours.now)) }
-        ensures fit { OnOk result ((length events.now ≡ self.now.count * self.now.event_share) × (length half_hours.now ≡ self.now.count * self.now.half_hour_share)) }
-    {
-        self.lengths_asked(events.len(), half_hours.len())
-    }
-
     // The questions of receiving, in their order.
     fn receiving_asked(
         &self,
         pages: u16,
-        events: &[Event],
-        half_hours: &[HalfHour],
+        events: usize,
+        half_hours: usize,
         room: usize,
     ) -> Result<(), Refusal>
-        ensures asked { result ≡ receiving_asked (line_view self.now) pages (length (event_views events.now)) (length (half_hour_views half_hours.now)) room }
+        ensures asked { result ≡ receiving_asked (line_view self.now) pages events half_hours room }
         ensures enough { OnOk result ((self.now.count ≤ pages) × (567 ≤ room)) }
-        ensures fit { OnOk result ((length events.now ≡ self.now.count * self.now.event_share) × (length half_hours.now ≡ self.now.count * self.now.half_hour_share)) }
+        ensures fit { OnOk result ((events ≡ self.now.count * self.now.event_share) × (half_hours ≡ self.now.count * self.now.half_hour_share)) }
     {
         self.enrolled_asked()?;
         self.pages_present_asked(pages)?;
@@ -112,19 +90,18 @@ impl Line {
         &mut self,
         signal: Signal,
         memory: &mut M,
-        events: &mut [Event],
+        events: &[Event],
         half_hours: &[HalfHour],
         answer: &mut [u8],
     ) -> Reception
         requires paged { self.old.count ≤ length (M.pages memory.old) }
-        requires events_fit { length events.old ≡ self.old.count * self.old.event_share }
+        requires events_fit { length events.now ≡ self.old.count * self.old.event_share }
         requires half_hours_fit { length half_hours.now ≡ self.old.count * self.old.half_hour_share }
         requires room { 567 ≤ length answer.old }
-        ensures told { result ≡ reception_of (heard (line_view self.old) signal (loan (M.pages memory.old) (event_views events.old) (half_hour_views half_hours.now)) answer.old).told }
-        ensures line { line_view self.new ≡ line_heard (line_view self.old) signal (loan (M.pages memory.old) (event_views events.old) (half_hour_views half_hours.now)) answer.old }
-        ensures pages { M.pages memory.new ≡ (heard (line_view self.old) signal (loan (M.pages memory.old) (event_views events.old) (half_hour_views half_hours.now)) answer.old).pages }
-        ensures events { event_views events.new ≡ (heard (line_view self.old) signal (loan (M.pages memory.old) (event_views events.old) (half_hour_views half_hours.now)) answer.old).events }
-        ensures answer { answer.new ≡ (heard (line_view self.old) signal (loan (M.pages memory.old) (event_views events.old) (half_hour_views half_hours.now)) answer.old).answer }
+        ensures told { result ≡ reception_of (heard (line_view self.old) signal (loan (M.pages memory.old) events.now half_hours.now) answer.old).told }
+        ensures line { line_view self.new ≡ line_heard (line_view self.old) signal (loan (M.pages memory.old) events.now half_hours.now) answer.old }
+        ensures pages { M.pages memory.new ≡ (heard (line_view self.old) signal (loan (M.pages memory.old) events.now half_hours.now) answer.old).pages }
+        ensures answer { answer.new ≡ (heard (line_view self.old) signal (loan (M.pages memory.old) events.now half_hours.now) answer.old).answer }
     {
         reception(follow(
             &mut self.receiver,
@@ -148,14 +125,19 @@ impl Line {
         half_hours: &mut [HalfHour],
         answer: &mut [u8],
     ) -> Result<Reception, Refusal>
-        ensures result { result ≡ reception_after (line_view self.old) signal (loan (M.pages memory.old) (event_views events.old) (half_hour_views half_hours.old)) answer.old }
-        ensures line { line_view self.new ≡ line_after (line_view self.old) signal (loan (M.pages memory.old) (event_views events.old) (half_hour_views half_hours.old)) answer.old }
-        ensures answer { answer.new ≡ answer_after (line_view self.old) signal (loan (M.pages memory.old) (event_views events.old) (half_hour_views half_hours.old)) answer.old }
-        ensures pages { M.pages memory.new ≡ pages_after (line_view self.old) signal (loan (M.pages memory.old) (event_views events.old) (half_hour_views half_hours.old)) answer.old }
-        ensures events { event_views events.new ≡ events_after (line_view self.old) signal (loan (M.pages memory.old) (event_views events.old) (half_hour_views half_hours.old)) answer.old }
+        ensures result { result ≡ reception_after (line_view self.old) signal (loan (M.pages memory.old) events.old half_hours.old) answer.old }
+        ensures line { line_view self.new ≡ line_after (line_view self.old) signal (loan (M.pages memory.old) events.old half_hours.old) answer.old }
+        ensures answer { answer.new ≡ answer_after (line_view self.old) signal (loan (M.pages memory.old) events.old half_hours.old) answer.old }
+        ensures pages { M.pages memory.new ≡ pages_after (line_view self.old) signal (loan (M.pages memory.old) events.old half_hours.old) answer.old }
+        ensures events { events.new ≡ events.old }
         ensures half_hours { half_hours.new ≡ half_hours.old }
     {
-        self.receiving_asked(memory.page_count(), events, half_hours, answer.len())?;
+        self.receiving_asked(
+            memory.page_count(),
+            events.len(),
+            half_hours.len(),
+            answer.len(),
+        )?;
         Ok(self.hear(signal, memory, events, half_hours, answer))
     }
 }

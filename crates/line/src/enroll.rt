@@ -10,11 +10,11 @@ use crate::refusal::Refusal;
 use book::ring::Ring;
 use command::event::Event;
 use command::half_hour::HalfHour;
+use command::settings::initial_page;
 use command::station::Station;
 use frame::receiver::Receiver;
 use frame::station_number::StationNumber;
 use memory::{SettingsMemory, restore};
-use settings::table::initial_page;
 
 // The highest number of a station.
 const HIGHEST_NUMBER: u16 = 4095;

@@ -3,14 +3,9 @@
 #![tactic(auto)]
 
 pub mod calls;
-pub mod close;
 pub mod enroll;
 mod find;
 pub mod line;
-pub mod measure;
-pub mod readers;
 pub mod reception;
-pub mod record;
 pub mod refusal;
 mod respond;
-pub mod tick;

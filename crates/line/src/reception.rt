@@ -7,6 +7,6 @@ pub enum Reception {
     Dropped(frame::fault::Fault),
     Answered {
         length: usize,
-        fault: Option<settings::fault::Fault>,
+        fault: Option<command::fault::Fault>,
     },
 }

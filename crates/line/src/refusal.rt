@@ -17,8 +17,6 @@ pub enum Refusal {
     PagesMissing,
     WrongBookLength,
     ShortAnswerBuffer,
-    UnknownNumber,
-    WrongKind,
 }
 
 impl Refusal {
@@ -38,8 +36,6 @@ impl Refusal {
             Refusal::PagesMissing => 11,
             Refusal::WrongBookLength => 12,
             Refusal::ShortAnswerBuffer => 13,
-            Refusal::UnknownNumber => 14,
-            Refusal::WrongKind => 15,
         }
     }
 }

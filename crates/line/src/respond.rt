@@ -3,10 +3,9 @@ ghost use Rattle.std.specs.Prelude.{◌≡◌, ℕ, ◌+◌, ◌*◌, ◌<◌, �
 ghost use Rattle.book.specs.Ranked.{share};
 ghost use Rattle.frame.specs.Reception.{link_of, step};
 ghost use Rattle.frame.specs.Requests.{opened};
-ghost use Rattle.command.specs.Records.{event_views, half_hour_views};
 ghost use Rattle.line.specs.Shares.{event_shares, half_hour_shares};
 ghost use Rattle.line.specs.Lines.{views_of};
-ghost use Rattle.line.specs.Receiving.{lent, outcome, dispatched, followed, reception_of};
+ghost use Rattle.line.specs.Receiving.{outcome, dispatched, followed, reception_of};
 
 use crate::find::place_of;
 use crate::reception::Reception;
@@ -34,7 +33,7 @@ fn dispatch<M: SettingsMemory>(
     frame: &[u8],
     stations: &mut [Station],
     memory: &mut M,
-    events: &mut [Event],
+    events: &[Event],
     event_share: usize,
     half_hours: &[HalfHour],
     half_hour_share: usize,
@@ -44,22 +43,21 @@ fn dispatch<M: SettingsMemory>(
     requires paged { length stations.old ≤ length (M.pages memory.old) }
     requires events_sized { (k : ℕ) → k < length stations.old → slice_index (event_shares stations.old) k ≡ event_share }
     requires half_hours_sized { (k : ℕ) → k < length stations.old → slice_index (half_hour_shares stations.old) k ≡ half_hour_share }
-    requires events_fit { length events.old ≡ length stations.old * event_share }
+    requires events_fit { length events.now ≡ length stations.old * event_share }
     requires half_hours_fit { length half_hours.now ≡ length stations.old * half_hour_share }
     requires room { 567 ≤ length answer.old }
-    ensures told { outcome result answer.new (views_of stations.new) (M.pages memory.new) (event_views events.new) ≡ dispatched (lent (views_of stations.old) (M.pages memory.old) (event_views events.old) event_share (half_hour_views half_hours.now) half_hour_share) answer.old (opened frame.now) }
+    ensures told { outcome result answer.new (views_of stations.exit.now) (M.pages memory.new) ≡ dispatched (record { stations = views_of stations.entry.now; pages = M.pages memory.old; events = events.now; event_share = event_share; half_hours = half_hours.now; half_hour_share = half_hour_share }) answer.old (opened frame.now) }
     ensures event_shares { event_shares stations.new ≡ event_shares stations.old }
     ensures half_hour_shares { half_hour_shares stations.new ≡ half_hour_shares stations.old }
 {
     let request = parse(frame)?;
     let place = place_of(stations, request.station)?;
-    let start = place * event_share;
     match respond(
         &request,
         &mut stations[place],
         memory,
         place as u16,
-        &mut events[start..start + event_share],
+        share_of(events, event_share, place),
         share_of(half_hours, half_hour_share, place),
         answer,
     ) {
@@ -74,7 +72,7 @@ pub(crate) fn follow<M: SettingsMemory>(
     signal: Signal,
     stations: &mut [Station],
     memory: &mut M,
-    events: &mut [Event],
+    events: &[Event],
     event_share: usize,
     half_hours: &[HalfHour],
     half_hour_share: usize,
@@ -84,11 +82,11 @@ pub(crate) fn follow<M: SettingsMemory>(
     requires paged { length stations.old ≤ length (M.pages memory.old) }
     requires events_sized { (k : ℕ) → k < length stations.old → slice_index (event_shares stations.old) k ≡ event_share }
     requires half_hours_sized { (k : ℕ) → k < length stations.old → slice_index (half_hour_shares stations.old) k ≡ half_hour_share }
-    requires events_fit { length events.old ≡ length stations.old * event_share }
+    requires events_fit { length events.now ≡ length stations.old * event_share }
     requires half_hours_fit { length half_hours.now ≡ length stations.old * half_hour_share }
     requires room { 567 ≤ length answer.old }
     ensures link { link_of receiver.new ≡ (step (link_of receiver.old) signal).next }
-    ensures told { outcome result answer.new (views_of stations.new) (M.pages memory.new) (event_views events.new) ≡ followed (lent (views_of stations.old) (M.pages memory.old) (event_views events.old) event_share (half_hour_views half_hours.now) half_hour_share) answer.old (step (link_of receiver.old) signal).told }
+    ensures told { outcome result answer.new (views_of stations.exit.now) (M.pages memory.new) ≡ followed (record { stations = views_of stations.entry.now; pages = M.pages memory.old; events = events.now; event_share = event_share; half_hours = half_hours.now; half_hour_share = half_hour_share }) answer.old (step (link_of receiver.old) signal).told }
     ensures event_shares { event_shares stations.new ≡ event_shares stations.old }
     ensures half_hour_shares { half_hour_shares stations.new ≡ half_hour_shares stations.old }
 {

@@ -2,7 +2,7 @@ use Rattle.std.proofs.Common.{◌≡◌, ℕ, eqb, List, [], ◌∷◌, ◌++◌
 use Rattle.std.proofs.lemmas.Bool.{cond-false, ne_eqb}
 use Rattle.frame.specs.Digits.{four_digits}
 use Rattle.command.specs.Gathered.{gathered}
-use Rattle.settings.specs.Parts.{digit_count}
+use Rattle.command.specs.Parts.{digit_count}
 use Rattle.command.specs.Shown.{number_shown}
 use Rattle.command.proofs.ShowSteps.{two_pushed}
 use Rattle.command.proofs.bulk_show.push_number.Goals as goal

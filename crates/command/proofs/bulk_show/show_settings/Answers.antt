@@ -2,8 +2,8 @@ use Rattle.std.proofs.Common.{ℕ, List, ◌++◌, ap, ◌∙◌, arith}
 use Rattle.std.proofs.ByRecursion.{All-get_or}
 use Rattle.calendar.specs.Moment.{moment_of}
 use Rattle.calendar.specs.Digits.{digits_of}
-use Rattle.settings.specs.declared.parts.Part.{Part}
-use Rattle.settings.specs.Parts.{LawfulPart}
+use Rattle.command.specs.declared.parts.Part.{Part}
+use Rattle.command.specs.Parts.{LawfulPart}
 use Rattle.command.specs.Shown.{parts_shown}
 use Rattle.command.proofs.ShowSteps.{shown_more, shown_all, room_for, widths_more}
 use Rattle.command.proofs.bulk_show.show_settings.Goals as goal

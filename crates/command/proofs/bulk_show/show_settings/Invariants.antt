@@ -1,6 +1,6 @@
 use Rattle.std.proofs.Common.{◌≡◌, ◌+◌, ◌++◌, drop}
 use Rattle.command.specs.Gathered.{gathered}
-use Rattle.settings.specs.Parts.{widths}
+use Rattle.command.specs.Parts.{widths}
 use Rattle.command.specs.Shown.{parts_shown}
 use Rattle.command.proofs.bulk_show.show_settings.Given as goal
 

@@ -2,7 +2,6 @@ use Rattle.std.proofs.Common.{◌≡◌, ℕ, ◌+◌, ◌<◌, ◌≤◌, List,
 use Rattle.std.proofs.lemmas.List.Edits.{map_over_more}
 use Rattle.std.proofs.lemmas.List.{take_all, drop_all, append-nil}
 use Rattle.command.specs.declared.half_hours.Slot.{Slot}
-use Rattle.command.specs.Records.{half_hour_view}
 use Rattle.command.specs.Slots.{noted}
 use Rattle.command.proofs.half_hours.note_in.Goals as goal
 
@@ -16,7 +15,7 @@ all f xs ys i h inv =
 
 pub loop-slot-preserved : goal.loop-slot-preserved
 loop-slot-preserved c =
-    more (noted (half_hour_view c.args.held)) c.args.slots.now c.loop-slot.slots c.loop-slot.slot-index c.slot-item.result _ (omega arith) c.loop-slot.invariant c.slot-item.is c.note.ensures
+    more (noted c.args.held) c.args.slots.now c.loop-slot.slots c.loop-slot.slot-index c.slot-item.result _ (omega arith) c.loop-slot.invariant c.slot-item.is c.note.ensures
 
 pub returns : goal.returns
-returns c = all (noted (half_hour_view c.args.held)) c.args.slots.now c.loop-slot.slots c.loop-slot.slot-index (omega arith) c.loop-slot.invariant
+returns c = all (noted c.args.held) c.args.slots.now c.loop-slot.slots c.loop-slot.slot-index (omega arith) c.loop-slot.invariant

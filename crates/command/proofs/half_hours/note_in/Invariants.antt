@@ -1,7 +1,6 @@
 use Rattle.std.proofs.Common.{◌≡◌, ◌++◌, map, take, drop}
-use Rattle.command.specs.Records.{half_hour_view}
 use Rattle.command.specs.Slots.{noted}
 use Rattle.command.proofs.half_hours.note_in.Given as goal
 
 abbrev pub invariant-loop-slot : goal.invariant-loop-slot
-invariant-loop-slot l = l.slots ≡ map (noted (half_hour_view l.held)) (take l.slot-index l.initial.slots) ++ drop l.slot-index l.initial.slots
+invariant-loop-slot l = l.slots ≡ map (noted l.held) (take l.slot-index l.initial.slots) ++ drop l.slot-index l.initial.slots

@@ -2,15 +2,15 @@ use Rattle.std.proofs.Common.{◌≡◌, ℕ, List, [], ◌++◌, map, ap, ◌�
 use Rattle.std.specs.List.{range_with_len, flat_map}
 use Rattle.book.specs.Ranked.{view_of, ranked}
 use Rattle.calendar.specs.Moment.{Moment, moment_of}
+use Rattle.command.specs.declared.half_hour.HalfHour.{HalfHour}
 use Rattle.command.specs.declared.half_hours.Slot.{Slot}
-use Rattle.command.specs.Records.{HalfHourView, half_hour_views}
 use Rattle.command.specs.HalfHours.{half_hours_shown}
 use Rattle.command.specs.Slots.{slot_view, slot_on, slots_after, slot_octets}
 use Rattle.command.proofs.Slotting.{slots_show}
 use Rattle.command.proofs.half_hours.show_half_hours.Goals as goal
 
 -- the time as received, and behind it the slots
-shown : (received none head all : List ℕ) (m : Moment) (rs : List HalfHourView) (first ss : List Slot)
+shown : (received none head all : List ℕ) (m : Moment) (rs : List HalfHour) (first ss : List Slot)
     → none ≡ [] → head ≡ none ++ received → all ≡ head ++ flat_map slot_octets ss → ss ≡ slots_after first rs → map slot_view first ≡ map (slot_on m) (range_with_len 0 24)
     → all ≡ half_hours_shown received m rs
 shown received none head all m rs first ss p q r s t =
@@ -19,5 +19,5 @@ shown received none head all m rs first ss p q r s t =
 
 pub returns : goal.returns
 returns c =
-    shown c.args.received.now _ _ _ (moment_of c.args.start) (ranked (view_of c.args.ring.now) (half_hour_views c.args.places.now)) c.slots_from-slots.result c.note_held.new.slots
+    shown c.args.received.now _ _ _ (moment_of c.args.start) (ranked (view_of c.args.ring.now) c.args.places.now) c.slots_from-slots.result c.note_held.new.slots
     c.new-content.ensures.none c.push.ensures.behind c.push_slots.ensures c.note_held.ensures c.slots_from-slots.ensures

@@ -1,16 +1,20 @@
 use Rattle.std.proofs.Common.{Ok, sym, ap, ◌∙◌}
 use Rattle.frame.specs.Reception.{told_by}
 use Rattle.frame.specs.Requests.{opened}
-use Rattle.command.specs.Records.{event_views, half_hour_views}
 use Rattle.line.specs.Lines.{views_of}
-use Rattle.line.specs.Receiving.{Lent, lent, dispatched, followed}
+use Rattle.line.specs.Receiving.{Lent, dispatched, followed}
 use Rattle.line.proofs.respond.follow.Goals as goal
 
 pub returns : goal.returns
 returns g c =
-    let x : Lent =
-    lent (views_of c.args.stations.now) (g.M.SettingsMemory.pages c.args.memory.now) (event_views c.args.events.now) c.args.event_share
-    (half_hour_views c.args.half_hours.now) c.args.half_hour_share in
+    let x : Lent = record {
+      stations = views_of c.args.stations.now;
+      pages = g.M.SettingsMemory.pages c.args.memory.now;
+      events = c.args.events.now;
+      event_share = c.args.event_share;
+      half_hours = c.args.half_hours.now;
+      half_hour_share = c.args.half_hour_share;
+    } in
     let buffer = c.args.answer.now in
     let octets = c.receive.new.self.octets in
     let hears = c.in_ok-length.ensures in

@@ -1,11 +1,10 @@
-use Rattle.std.proofs.Common.{◌≡◌, ℕ, ◌-◌, ◌*◌, List, ◌++◌, length, take, sym, ap, ◌∙◌, arith}
+use Rattle.std.proofs.Common.{◌≡◌, ◌-◌, ◌*◌, List, ◌++◌, take, sym, ap, ◌∙◌, arith}
 use borrow.Rule.Slice.PartMut.{post_of}
 use Rattle.frame.specs.Reception.{step}
-use Rattle.command.specs.Records.{event_views, half_hour_views}
 use Rattle.command.specs.Stations.{StationView}
 use Rattle.line.specs.Shares.{event_share_of, half_hour_share_of}
 use Rattle.line.specs.Lines.{LineView, line_view, views_of}
-use Rattle.line.specs.Receiving.{Lent, lent, Loan, loan, Outcome, outcome, followed, reception_of, heard, with_stations}
+use Rattle.line.specs.Receiving.{Lent, Loan, loan, outcome, followed, reception_of, heard, with_stations}
 use Rattle.line.proofs.Tables.{lent_is, length-lent, sized_lent, views_back, shares_kept}
 use Rattle.line.proofs.line.Line.hear.Goals as goal
 
@@ -40,11 +39,18 @@ returns g c =
     let l = c.args.self.now in
     let v : LineView = line_view l in
     let ps = g.M.SettingsMemory.pages c.args.memory.now in
-    let x : Loan = loan ps (event_views c.args.events.now) (half_hour_views c.args.half_hours.now) in
+    let x : Loan = loan ps c.args.events.now c.args.half_hours.now in
     let buffer = c.args.answer.now in
-    let with : List StationView → Lent = λ ss. lent ss ps x.events l.event_share x.half_hours l.half_hour_share in
-    let e : outcome c.follow.result c.follow.new.answer (views_of c.follow.new.stations) (g.M.SettingsMemory.pages c.follow.new.memory) (event_views c.follow.new.events) ≡ heard v c.args.signal x buffer =
-    c.follow.ensures.told ∙ ap (λ ss. followed (with (views_of ss)) buffer (step v.link c.args.signal).told) (lent_is l.count l.stations) in
+    let lent : List StationView → Lent = λ ss. record {
+      stations = ss;
+      pages = ps;
+      events = c.args.events.now;
+      event_share = l.event_share;
+      half_hours = c.args.half_hours.now;
+      half_hour_share = l.half_hour_share;
+    } in
+    let e : outcome c.follow.result c.follow.new.answer (views_of c.follow.new.stations) (g.M.SettingsMemory.pages c.follow.new.memory) ≡ heard v c.args.signal x buffer =
+    c.follow.ensures.told ∙ ap (λ ss. followed (lent (views_of ss)) buffer (step v.link c.args.signal).told) (lent_is l.count l.stations) in
     record {
       told = c.reception.ensures ∙ ap (λ o. reception_of o.told) e;
       line =
@@ -52,6 +58,5 @@ returns g c =
           ∙ ap (with_stations v (step v.link c.args.signal).next)
           (views_back event_share_of l.count l.event_share l.stations c.follow.new.stations l.few l.events_alike c.follow.ensures.event_shares ∙ ap (λ o. o.stations) e);
       pages = ap (λ o. o.pages) e;
-      events = ap (λ o. o.events) e;
       answer = ap (λ o. o.answer) e;
     }

@@ -1,5 +1,0 @@
-pub mod Lawful
-pub mod Ratios
-pub mod FieldSteps
-pub mod PartSteps
-pub mod MergeSteps

@@ -1,6 +1,0 @@
-use Rattle.std.proofs.Common.{◌≡◌, take}
-use Rattle.settings.specs.Merged.{merged_cells}
-use Rattle.settings.proofs.bulk_merge.merged_cells.Given as goal
-
-abbrev pub invariant-loop-cell : goal.invariant-loop-cell
-invariant-loop-cell l = l.merged ≡ merged_cells (take l.cell l.cells) l.page

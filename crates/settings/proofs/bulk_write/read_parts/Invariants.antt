@@ -1,6 +1,0 @@
-use Rattle.std.proofs.Common.{◌≡◌, drop}
-use Rattle.settings.specs.Bulk.{parts_read, all_left}
-use Rattle.settings.proofs.bulk_write.read_parts.Given as goal
-
-abbrev pub invariant-loop-part : goal.invariant-loop-part
-invariant-loop-part l = parts_read l.content l.cells (drop l.part-index l.part-items) ≡ parts_read l.content all_left l.part-items

@@ -1,9 +1,0 @@
-pub mod Faults
-pub mod Questions
-pub mod Table
-pub mod Ratios
-pub mod Parts
-pub mod Fields
-pub mod Bulk
-pub mod Merged
-pub mod Stages
