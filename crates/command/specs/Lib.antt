@@ -1,6 +1,7 @@
 pub mod Kinds
 pub mod Faults
 pub mod Commands
+pub mod Records
 pub mod Stations
 pub mod Table
 pub mod Decimals

@@ -9,7 +9,8 @@ use Rattle.command.specs.declared.station.Station.{Station}
 use Rattle.command.specs.Stations.{StationView, station_view}
 use Rattle.command.specs.Table.{initial_page}
 use Rattle.line.specs.declared.line.Line.{Line}
-use Rattle.line.specs.Shares.{event_share_of, alike}
+use Rattle.line.specs.Shares.{event_share_of, half_hour_share_of, alike}
+use Rattle.line.specs.Receiving.{nobody}
 use Rattle.line.specs.Lines.{views_of, line_view}
 use Rattle.line.specs.Enrolling.{initial_pages}
 
@@ -98,3 +99,36 @@ module _ (f : Station → ℕ) (n c : ℕ) (ss ys : List Station) (few : n ≤ 3
       ∙ sym (map-append f (mid_of 0 (n - 0) ss) (post_of 0 (n - 0) ss))
       ∙ ap (map f) (take-append-drop (n - 0) ss)
       ∙ sized
+
+-- a station replaced, as the contracts have it
+pub views_set : (change : StationView → StationView) (ss : List Station) (k : ℕ) (s t : Station) → k < length ss → station_view t ≡ change (station_view (get_or ss k s)) → views_of (set ss k t) ≡ set (views_of ss) k (change (get_or (views_of ss) k nobody))
+views_set change ss k s t h e =
+    map-set station_view ss k t ∙ ap (λ v. set (views_of ss) k v) (e ∙ ap change (sym (get_or-map station_view ss k s nobody h)))
+
+-- the line after its stations were lent, and came back with shares of the same sizes
+module _ (l : Line) (ys : List Station)
+    (events : map event_share_of ys ≡ map event_share_of (mid_of 0 (l.count - 0) l.stations))
+    (half_hours : map half_hour_share_of ys ≡ map half_hour_share_of (mid_of 0 (l.count - 0) l.stations)) where
+  pub events_kept : map event_share_of (ys ++ post_of 0 (l.count - 0) l.stations) ≡ alike l.event_share
+  events_kept = shares_kept event_share_of l.count l.event_share l.stations ys l.few l.events_alike events
+
+  pub half_hours_kept : map half_hour_share_of (ys ++ post_of 0 (l.count - 0) l.stations) ≡ alike l.half_hour_share
+  half_hours_kept = shares_kept half_hour_share_of l.count l.half_hour_share l.stations ys l.few l.half_hours_alike half_hours
+
+  -- if the stations lent came back changed, so did the line's
+  pub stations_back : (change : List StationView → List StationView) → views_of ys ≡ change (views_of (mid_of 0 (l.count - 0) l.stations)) → views_of (take l.count (ys ++ post_of 0 (l.count - 0) l.stations)) ≡ change (line_view l).stations
+  stations_back change e =
+      views_back event_share_of l.count l.event_share l.stations ys l.few l.events_alike events
+      ∙ e ∙ ap (λ (ss : List Station). change (views_of ss)) (lent_is l.count l.stations)
+
+-- the station at a place of the line
+pub station_here : (l : Line) (k : ℕ) (s : Station) → k < l.count → station_view (get_or l.stations k s) ≡ get_or (line_view l).stations k nobody
+station_here l k s h =
+    let table = length-table event_share_of l.event_share l.stations l.events_alike in
+    let few = l.few in
+    let long : k < length (take l.count l.stations) = simp length-take (omega arith) in
+    sym (get_or-map station_view (take l.count l.stations) k s nobody long ∙ ap station_view (get_or-take l.count l.stations k s h))
+
+pub share_here : (f : Station → ℕ) (c k : ℕ) (ss : List Station) (s : Station) → k < 32 → map f ss ≡ alike c → f (get_or ss k s) ≡ c
+share_here f c k ss s h e =
+    sym (get_or-map f ss k s 0 (omega (arith, length-table f c ss e))) ∙ ap (λ (t : List ℕ). get_or t k 0) e ∙ alike_at c k h

@@ -3,3 +3,5 @@ pub mod Refusals
 pub mod Lines
 pub mod Enrolling
 pub mod Receiving
+pub mod Calling
+pub mod Reading

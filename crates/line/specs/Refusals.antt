@@ -1,7 +1,7 @@
 -- The number that each refusal tells.
 use Rattle.std.specs.Prelude.{ℕ}
 use Rattle.line.specs.declared.refusal.Refusal.{Refusal}
-use Rattle.line.specs.declared.refusal.Refusal.TheVariants.{NotNew, WrongStationCount, WrongStationNumber, RepeatedNumber, TooFewPages, WrongEventBook, WrongHalfHourBook, NotEnrolled, PagesMissing, WrongBookLength, ShortAnswerBuffer}
+use Rattle.line.specs.declared.refusal.Refusal.TheVariants.{NotNew, WrongStationCount, WrongStationNumber, RepeatedNumber, TooFewPages, WrongEventBook, WrongHalfHourBook, NotEnrolled, PagesMissing, WrongBookLength, ShortAnswerBuffer, UnknownNumber, WrongKind}
 
 abbrev pub number_of : Refusal → ℕ
 number_of NotNew = 1
@@ -15,3 +15,5 @@ number_of NotEnrolled = 10
 number_of PagesMissing = 11
 number_of WrongBookLength = 12
 number_of ShortAnswerBuffer = 13
+number_of UnknownNumber = 14
+number_of WrongKind = 15

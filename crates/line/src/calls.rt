@@ -2,6 +2,7 @@
 ghost use Rattle.std.specs.Prelude.{◌≡◌, ℕ, ◌+◌, ◌*◌, ◌<◌, ◌≤◌, length, OnOk};
 ghost use Rattle.frame.specs.Reception.{step};
 ghost use Rattle.line.specs.Lines.{line_view};
+ghost use Rattle.line.specs.Calling.{book_asked};
 ghost use Rattle.line.specs.Receiving.{enrolled_asked, pages_present_asked, books_asked, room_asked, receiving_asked, loan, heard, reception_of, line_heard, reception_after, line_after, answer_after, pages_after};
 
 use crate::line::Line;
@@ -36,7 +37,7 @@ impl Line {
         self.count
     }
 
-    fn enrolled_asked(&self) -> Result<(), Refusal>
+    pub(crate) fn enrolled_asked(&self) -> Result<(), Refusal>
         ensures { result ≡ enrolled_asked (line_view self.now) }
     {
         if self.station_count() == 0 {
@@ -53,6 +54,19 @@ impl Line {
             return Err(Refusal::PagesMissing);
         }
         Ok(())
+    }
+
+    // Whether a book with shares of a size has its enrolled length.
+    pub(crate) fn book_asked(&self, share: usize, places: usize) -> Result<(), Refusal>
+        requires { share ≤ 5000 }
+        ensures asked { result ≡ book_asked (line_view self.now) share places }
+        ensures fit { OnOk result (places ≡ self.now.count * share) }
+    {
+        if places == self.station_count() * share {
+            Ok(())
+        } else {
+            Err(Refusal::WrongBookLength)
+        }
     }
 
     fn books_asked(&self, events: usize, half_hours: usize) -> Result<(), Refusal>

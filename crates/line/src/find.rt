@@ -8,7 +8,7 @@ use frame::fault::Fault;
 use frame::station_number::StationNumber;
 
 // The first place of a number in a table.
-fn find(stations: &[Station], number: u16) -> Option<usize>
+pub(crate) fn find(stations: &[Station], number: u16) -> Option<usize>
     ensures place { result ≡ place_from 0 number (views_of stations.now) }
     ensures within { IfSome result (λ k. k < length stations.now) }
 {

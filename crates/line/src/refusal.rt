@@ -17,6 +17,8 @@ pub enum Refusal {
     PagesMissing,
     WrongBookLength,
     ShortAnswerBuffer,
+    UnknownNumber,
+    WrongKind,
 }
 
 impl Refusal {
@@ -36,6 +38,8 @@ impl Refusal {
             Refusal::PagesMissing => 11,
             Refusal::WrongBookLength => 12,
             Refusal::ShortAnswerBuffer => 13,
+            Refusal::UnknownNumber => 14,
+            Refusal::WrongKind => 15,
         }
     }
 }
