@@ -1,4 +1,4 @@
-use Rattle.std.proofs.Common.{◌≡◌, ap}
+use Rattle.std.proofs.Common.{ap}
 use Rattle.command.specs.Stations.{StationView, measured}
 use Rattle.line.specs.Shares.{event_share_of, half_hour_share_of}
 use Rattle.line.proofs.Tables.{views_set, shares_set}

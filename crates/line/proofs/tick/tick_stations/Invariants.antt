@@ -1,5 +1,5 @@
 use Rattle.std.proofs.Common.{◌≡◌, ◌++◌, map, take, drop}
-use Rattle.command.specs.Stations.{ticked, station_view}
+use Rattle.command.specs.Stations.{ticked}
 use Rattle.line.specs.Shares.{event_shares, half_hour_shares}
 use Rattle.line.specs.Lines.{views_of}
 use Rattle.line.proofs.tick.tick_stations.Given as goal

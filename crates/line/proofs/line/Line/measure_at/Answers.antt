@@ -1,4 +1,4 @@
-use Rattle.std.proofs.Common.{◌≡◌, get_or, set, ap}
+use Rattle.std.proofs.Common.{get_or, set, ap}
 use Rattle.command.specs.Stations.{measured}
 use Rattle.line.specs.Lines.{line_view}
 use Rattle.line.specs.Receiving.{nobody, with_stations}

@@ -1,4 +1,4 @@
-use Rattle.std.proofs.Common.{◌≡◌, map, ap}
+use Rattle.std.proofs.Common.{map, ap}
 use Rattle.command.specs.Stations.{ticked}
 use Rattle.line.specs.Lines.{line_view}
 use Rattle.line.specs.Receiving.{with_stations}
