@@ -131,32 +131,33 @@ fn listen(
     Err(anyhow!("the input goes on after 18446744073709551615 turns of reading"))
 }
 
-// What the arguments ask for: hexadecimal text, or octets as they are; none where it is the help.
-fn chosen_input(rt: &HostRuntime) -> anyhow::Result<Option<Input>> {
+// What the arguments ask for.
+#[derive(Drop)]
+enum Choice {
+    // hexadecimal text, or octets as they are
+    Poll(Input),
+    Help,
+    // an argument that is none
+    Unknown(String),
+}
+
+fn chosen_input(rt: &HostRuntime) -> anyhow::Result<Choice> {
     let mut hex = false;
     let mut help = false;
     for word in env::args(rt)?.skip(1) {
         match Word::read(word.as_bytes()) {
             Some(Word::Hex) => hex = true,
             Some(Word::Help) => help = true,
-            None => {
-                return Err(anyhow!(format!(in rt.alloc();
-                    "unknown argument '{word}'; see --help"
-                )?));
-            }
+            None => return Ok(Choice::Unknown(word)),
         }
     }
     if help {
-        return Ok(None);
+        return Ok(Choice::Help);
     }
-    Ok(Some(Input::new(hex)))
+    Ok(Choice::Poll(Input::new(hex)))
 }
 
-fn run(rt: &HostRuntime) -> anyhow::Result<()> {
-    let Some(mut input) = chosen_input(rt)? else {
-        rt.print(HELP)?;
-        return Ok(());
-    };
+fn poll(rt: &HostRuntime, mut input: Input) -> anyhow::Result<()> {
     let mut cells = [0; 56];
     let mut memory = WorkingMemory { cells: &mut cells };
     match LineBox::new(&mut memory) {
@@ -165,9 +166,22 @@ fn run(rt: &HostRuntime) -> anyhow::Result<()> {
     }
 }
 
+fn run(rt: &HostRuntime) -> anyhow::Result<ExitCode> {
+    match chosen_input(rt)? {
+        Choice::Poll(input) => poll(rt, input)?,
+        Choice::Help => rt.print(HELP)?,
+        Choice::Unknown(word) => {
+            // An error would keep no more than 120 octets of it.
+            eprintln!(rt; "linebox: unknown argument '{word}'; see --help")?;
+            return Ok(ExitCode::FAILURE);
+        }
+    }
+    Ok(ExitCode::SUCCESS)
+}
+
 fn main(rt: HostRuntime) -> ExitCode {
     match run(&rt) {
-        Ok(()) => ExitCode::SUCCESS,
+        Ok(code) => code,
         Err(error) => {
             let _ = eprintln!(rt; "linebox: {error}");
             ExitCode::FAILURE

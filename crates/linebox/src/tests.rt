@@ -7,6 +7,7 @@ use command::half_hour::HalfHour;
 use frame::signal::Signal;
 use frame::station_number::StationNumber;
 use line::line::Line;
+use line::readers::PresentValues;
 use line::refusal::Refusal;
 use memory::WorkingMemory;
 
@@ -104,4 +105,47 @@ fn a_line_is_enrolled_once(rt: HostRuntime) {
         told(line.enroll(&[number(7)], &mut memory, &events, 2, &half_hours, 1)),
         1
     );
+}
+
+#[test]
+fn a_station_is_measured_recorded_and_ticked(rt: HostRuntime) {
+    let mut cells = [0u16; 56];
+    let mut memory = WorkingMemory { cells: &mut cells };
+    let mut events = [event(); 6];
+    let half_hours = [half_hour(); 4];
+    let mut line = Line::new();
+    let numbers = [number(1), number(2)];
+    assert_eq!(rt;
+        told(line.enroll(&numbers, &mut memory, &events, 3, &half_hours, 2)),
+        0
+    );
+    assert_eq!(rt; told(line.measure(number(2), 10000, 120)), 0);
+    assert_eq!(rt; told(line.measure(number(3), 1, 1)), 14);
+    assert_eq!(rt; told(line.record_event(number(2), 90, &mut events)), 0);
+    assert_eq!(rt; told(line.record_event(number(2), 92, &mut events)), 15);
+    assert_eq!(rt; told(line.tick()), 0);
+    assert_eq!(rt;
+        line.present_values(number(2)),
+        Ok(PresentValues {
+            demand: 9999,
+            predicted: 120,
+        })
+    );
+    assert_eq!(rt; line.held_events(number(2)), Ok(1));
+    assert_eq!(rt; line.held_events(number(1)), Ok(0));
+    assert_eq!(rt; line.held_half_hours(number(2)), Ok(0));
+    assert_eq!(rt;
+        line.clock(number(1)),
+        Ok(DateTime::first().one_second_on())
+    );
+    let newest = match line.event_at_rank(number(2), &events, 0) {
+        Ok(Some(event)) => Some((event.kind.number(), event.demand)),
+        _ => None,
+    };
+    assert_eq!(rt; newest, Some((90, 9999)));
+    let half_hour_held = match line.half_hour_at_rank(number(2), &half_hours, 0) {
+        Ok(held) => held.is_some(),
+        Err(_) => true,
+    };
+    assert!(rt; !half_hour_held);
 }
