@@ -1,4 +1,4 @@
 pub mod Roll
 pub mod Tables
 pub mod Serving
-pub mod ReadShares
+pub mod Reading

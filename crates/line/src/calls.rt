@@ -1,8 +1,8 @@
 // The calls of a line after enrolling.
-ghost use Rattle.std.specs.Prelude.{◌≡◌, ℕ, ◌+◌, ◌*◌, ◌<◌, ◌≤◌, length, OnOk};
+ghost use Rattle.std.specs.Prelude.{◌≡◌, ℕ, ◌+◌, ◌*◌, ◌<◌, ◌≤◌, length, IfOk, OnOk};
 ghost use Rattle.frame.specs.Reception.{step};
 ghost use Rattle.line.specs.Lines.{line_view};
-ghost use Rattle.line.specs.Calling.{book_asked};
+ghost use Rattle.line.specs.Calling.{book_asked, share_asked};
 ghost use Rattle.line.specs.Receiving.{enrolled_asked, pages_present_asked, books_asked, room_asked, receiving_asked, loan, heard, reception_of, line_heard, reception_after, line_after, answer_after, pages_after};
 
 use crate::line::Line;
@@ -12,6 +12,7 @@ use crate::respond::{follow, reception};
 use command::event::Event;
 use command::half_hour::HalfHour;
 use frame::signal::Signal;
+use frame::station_number::StationNumber;
 use memory::SettingsMemory;
 
 // The longest answer.
@@ -57,7 +58,7 @@ impl Line {
     }
 
     // Whether a book with shares of a size has its enrolled length.
-    pub(crate) fn book_asked(&self, share: usize, places: usize) -> Result<(), Refusal>
+    fn book_asked(&self, share: usize, places: usize) -> Result<(), Refusal>
         requires { share ≤ 5000 }
         ensures asked { result ≡ book_asked (line_view self.now) share places }
         ensures fit { OnOk result (places ≡ self.now.count * share) }
@@ -67,6 +68,23 @@ impl Line {
         } else {
             Err(Refusal::WrongBookLength)
         }
+    }
+
+    // The questions of a call that names a station and is lent the book with shares of a size, in their order.
+    pub(crate) fn share_asked(
+        &self,
+        share: usize,
+        places: usize,
+        number: StationNumber,
+    ) -> Result<usize, Refusal>
+        requires { share ≤ 5000 }
+        ensures asked { result ≡ share_asked (line_view self.now) share places number.value }
+        ensures within { IfOk result (λ k. k < self.now.count) }
+        ensures fit { OnOk result (places ≡ self.now.count * share) }
+    {
+        self.enrolled_asked()?;
+        self.book_asked(share, places)?;
+        self.station_asked(number)
     }
 
     fn books_asked(&self, events: usize, half_hours: usize) -> Result<(), Refusal>
