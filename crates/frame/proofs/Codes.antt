@@ -1,7 +1,7 @@
 -- Digits and answers read back.
 use Rattle.std.proofs.Common.{◌≡◌, ℕ, ◌+◌, ◌-◌, ◌/◌, ◌%◌, ◌<◌, true, List, [], ◌∷◌, ◌++◌, length, get_or, take, Some, None, refl, ap, ◌∙◌, arith}
 use Rattle.std.proofs.lemmas.Bool.Decides.{nat_tests}
-use Rattle.std.proofs.lemmas.List.{append_assoc, length-append, take-append-le, take_all, drop-append-le, drop_all, get_or-append_right, length_push}
+use Rattle.std.proofs.lemmas.List.{append_assoc, length-append, take-append-le, take_all, drop-append-le, drop_all, get_or_push, length_push}
 use Rattle.std.proofs.lemmas.Bool.{eq-eqb, le-leb, and_from, cond-true}
 use Rattle.std.specs.List.{between}
 use Rattle.frame.specs.Digits.{digit_of, value_of, octet_of, two_digits}
@@ -25,14 +25,6 @@ middle pre mid post i j p q =
     ∙ take-append-le (j - i) mid post (omega arith)
     ∙ take_all (j - i) mid (omega arith)
 
-pub last_of : (xs : List ℕ) (y : ℕ) → get_or (xs ++ y ∷ []) (length (xs ++ y ∷ []) - 1) 0 ≡ y
-last_of xs y =
-    let e : length (xs ++ y ∷ []) - 1 ≡ length xs = omega (arith, length_push xs y) in
-    let z : length xs - length xs ≡ 0 = omega arith in
-    ap (λ n. get_or (xs ++ y ∷ []) n 0) e
-    ∙ get_or-append_right xs (y ∷ []) (length xs) (length xs) 0 refl (omega arith)
-    ∙ ap (λ n. get_or (y ∷ []) n 0) z
-
 module _ (address command content : List ℕ) (four : length address ≡ 4) (two : length command ≡ 2) where
   abbrev body : List ℕ
   body = body_of address command content
@@ -43,11 +35,14 @@ module _ (address command content : List ℕ) (four : length address ≡ 4) (two
   pub length-answer : length (answer_of address command content) ≡ 11 + length content
   length-answer = simp length-append (omega arith)
 
+  parted : body ≡ address ++ (command ++ (content ++ 3 ∷ []))
+  parted = append_assoc (address ++ command) content (3 ∷ []) ∙ append_assoc address command (content ++ 3 ∷ [])
+
   address_in : take 4 body ≡ address
-  address_in = ap (take 4) (append_assoc (address ++ command) content (3 ∷ []) ∙ append_assoc address command (content ++ 3 ∷ [])) ∙ middle [] address (command ++ (content ++ 3 ∷ [])) 0 4 refl (omega arith)
+  address_in = ap (take 4) parted ∙ middle [] address (command ++ (content ++ 3 ∷ [])) 0 4 refl (omega arith)
 
   command_in : between 4 6 body ≡ command
-  command_in = ap (between 4 6) (append_assoc (address ++ command) content (3 ∷ []) ∙ append_assoc address command (content ++ 3 ∷ [])) ∙ middle address command (content ++ 3 ∷ []) 4 6 four (omega arith)
+  command_in = ap (between 4 6) parted ∙ middle address command (content ++ 3 ∷ []) 4 6 four (omega arith)
 
   content_in : between 6 (length body - 1) body ≡ content
   content_in =
@@ -64,21 +59,24 @@ module _ (address command content : List ℕ) (four : length address ≡ 4) (two
   abbrev answer : List ℕ
   answer = answer_of address command content
 
+  sealed_in : answer ≡ 2 ∷ (body ++ (check ++ 13 ∷ []))
+  sealed_in = ap (λ (t : List ℕ). 2 ∷ t) (append_assoc body check (13 ∷ []))
+
   body_in : between 1 (length answer - 3) answer ≡ body
   body_in =
-      ap (λ (t : List ℕ). between 1 (length answer - 3) (2 ∷ t)) (append_assoc body check (13 ∷ []))
+      ap (between 1 (length answer - 3)) sealed_in
       ∙ middle (2 ∷ []) body (check ++ 13 ∷ []) 1 (length answer - 3) refl (omega (arith, length-body, length-answer))
 
   check_in : between (length answer - 3) (length answer - 1) answer ≡ check
   check_in =
-      ap (λ (t : List ℕ). between (length answer - 3) (length answer - 1) (2 ∷ t)) (append_assoc body check (13 ∷ []))
+      ap (between (length answer - 3) (length answer - 1)) sealed_in
       ∙ middle (2 ∷ body) check (13 ∷ []) (length answer - 3) (length answer - 1) (omega (arith, length-body, length-answer)) (omega (arith, length-body, length-answer))
 
   etx_in : get_or body (length body - 1) 0 ≡ 3
-  etx_in = last_of (address ++ command ++ content) 3
+  etx_in = get_or_push (address ++ command ++ content) 3 0 (length body - 1) (omega (arith, length_push (address ++ command ++ content) 3))
 
   cr_in : get_or answer (length answer - 1) 0 ≡ 13
-  cr_in = last_of (2 ∷ (body ++ check)) 13
+  cr_in = get_or_push (2 ∷ (body ++ check)) 13 0 (length answer - 1) (omega (arith, length_push (2 ∷ (body ++ check)) 13))
 
   sum_in : summed body check ≡ true
   sum_in =

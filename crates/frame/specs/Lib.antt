@@ -1,4 +1,4 @@
-pub mod Held
+pub mod Handing
 pub mod Faults
 pub mod Digits
 pub mod Checksum

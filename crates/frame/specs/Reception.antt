@@ -1,5 +1,6 @@
 -- What the receiver does at each signal, over the octets of the frame that is begun.
-use Rattle.std.specs.Prelude.{ℕ, cond, List, [], ◌∷◌, ◌++◌, length, take, Some, None, Ok, Err, Option, Result, ◌==◌, nat_lt}
+use Rattle.std.specs.Prelude.{ℕ, cond, List, [], ◌∷◌, ◌++◌, length, Some, None, Ok, Err, Option, Result, ◌==◌, nat_lt}
+use denote.Ref.{Bor}
 use Rattle.frame.specs.declared.fault.Fault.{Fault}
 use Rattle.frame.specs.declared.fault.Fault.TheVariants.{DamagedOctet, TooLong}
 use Rattle.frame.specs.declared.receiver.State.{State}
@@ -56,13 +57,13 @@ step l Damaged = damaged l
 -- the link that a receiver stands for
 abbrev pub link_at : State → List ℕ → Link
 link_at Idle xs = idle
-link_at (Collecting n) xs = begun (take n xs)
+link_at Collecting xs = begun xs
 
 abbrev pub link_of : Receiver → Link
-link_of r = link_at r.state r.octets
+link_of r = link_at r.state r.octets.items
 
--- what the code's result tells: a length stands for so many octets at the front
-abbrev pub told_by : Result (Option ℕ) Fault → List ℕ → Told
-told_by (Ok None) xs = Ok None
-told_by (Ok (Some n)) xs = Ok (Some (take n xs))
-told_by (Err f) xs = Err f
+-- what the code's result tells: the octets that it hands out are the frame
+abbrev pub told_by : Result (Option (Bor (List ℕ))) Fault → Told
+told_by (Ok None) = Ok None
+told_by (Ok (Some octets)) = Ok (Some octets.now)
+told_by (Err f) = Err f

@@ -1,5 +1,5 @@
 // Answers, written to the front of a lent buffer.
-ghost use Rattle.std.specs.Prelude.{◌≡◌, ℕ, ◌+◌, ◌-◌, ◌*◌, ◌/◌, ◌%◌, ◌<◌, ◌≤◌, List, [], ◌∷◌, ◌++◌, length, take, drop, IfOk, Some};
+ghost use Rattle.std.specs.Prelude.{◌≡◌, ℕ, ◌+◌, ◌≤◌, [], ◌∷◌, ◌++◌, length, take, drop, IfOk, Some};
 ghost use Rattle.std.specs.List.{between};
 ghost use Rattle.frame.specs.Checksum.{checksum_of};
 ghost use Rattle.frame.specs.Digits.{two_digits};
@@ -13,6 +13,8 @@ use crate::signal::{CR, ETX, STX};
 const AROUND: usize = 11;
 
 // Copies `octets` into `buffer` from `start` on, and says where they end.
+// Kept: a writer that held the buffer and its end is no plainer, since each method would owe that it keeps the loan.
+#[tactic(auto, using(std::proofs::lemmas::Slice::overwrites))]
 fn put(buffer: &mut [u8], start: usize, octets: &[u8]) -> usize
     requires { start + length octets.now ≤ length buffer.old }
     ensures end { result ≡ start + length octets.now }
@@ -24,20 +26,6 @@ fn put(buffer: &mut [u8], start: usize, octets: &[u8]) -> usize
     end
 }
 
-// Writes STX and what is summed: the number, the command, the data and ETX.
-fn write_body(buffer: &mut [u8], address: [u8; 4], command: [u8; 2], content: &[u8]) -> usize
-    requires { 11 + length content.now ≤ length buffer.old }
-    ensures end { result ≡ 8 + length content.now }
-    ensures front { take result buffer.new ≡ 2 ∷ body_of address command content.now }
-    ensures rest { (n : ℕ) → result ≤ n → drop n buffer.new ≡ drop n buffer.old }
-{
-    let a = put(buffer, 0, &[STX]);
-    let b = put(buffer, a, &address);
-    let c = put(buffer, b, &command);
-    let d = put(buffer, c, content);
-    put(buffer, d, &[ETX])
-}
-
 // Writes the checksum of all octets from the second to `end`, and CR.
 fn seal(buffer: &mut [u8], end: usize) -> usize
     requires end_in_bounds { end + 3 ≤ length buffer.old }
@@ -47,38 +35,57 @@ fn seal(buffer: &mut [u8], end: usize) -> usize
     ensures rest { (n : ℕ) → result ≤ n → drop n buffer.new ≡ drop n buffer.old }
 {
     let check = digits::two_digits(checksum(&buffer[1..end]));
-    let digits_end = put(buffer, end, &check);
-    put(buffer, digits_end, &[CR])
-}
-
-// Writes an answer into a buffer that has room for it.
-fn write_whole(buffer: &mut [u8], address: [u8; 4], command: [u8; 2], content: &[u8]) -> usize
-    requires { 11 + length content.now ≤ length buffer.old }
-    ensures length { result ≡ 11 + length content.now }
-    ensures wrote { buffer.new ≡ answer_of address command content.now ++ drop result buffer.old }
-    ensures reads_back { read_back (take result buffer.new) ≡ Some (answer_with address command content.now) }
-{
-    let end = write_body(buffer, address, command, content);
-    seal(buffer, end)
+    let check_end = put(buffer, end, &check);
+    put(buffer, check_end, &[CR])
 }
 
 // The buffer is too short for the answer.
 #[derive(Clone, Copy, Debug, PartialEq, Eq)]
 pub struct NoRoom;
 
-// Writes an answer to the front of the buffer and tells its length; a buffer that is too short stays as it is.
-pub fn write_answer(
-    buffer: &mut [u8],
-    address: [u8; 4],
-    command: [u8; 2],
-    content: &[u8],
-) -> Result<usize, NoRoom>
-    ensures length { result ≡ counted (length buffer.old) content.now }
-    ensures wrote { buffer.new ≡ fronted address command content.now buffer.old }
-    ensures reads_back { IfOk result (λ n. read_back (take n buffer.new) ≡ Some (answer_with address command content.now)) }
-{
-    if buffer.len() < AROUND || buffer.len() - AROUND < content.len() {
-        return Err(NoRoom);
+// What an answer says: the number of the station, the answer command and the data.
+#[derive(Clone, Copy, Debug)]
+pub struct Answer<'a> {
+    pub address: [u8; 4],
+    pub command: [u8; 2],
+    pub content: &'a [u8],
+}
+
+impl Answer<'_> {
+    // Writes the answer to the front of the buffer and tells its length; a buffer that is too short stays as it is.
+    pub fn write(&self, buffer: &mut [u8]) -> Result<usize, NoRoom>
+        ensures length { result ≡ counted (length buffer.old) self.now.content.now }
+        ensures wrote { buffer.new ≡ fronted self.now.address self.now.command self.now.content.now buffer.old }
+        ensures reads_back { IfOk result (λ n. read_back (take n buffer.new) ≡ Some (answer_with self.now.address self.now.command self.now.content.now)) }
+    {
+        if buffer.len() < AROUND + self.content.len() {
+            return Err(NoRoom);
+        }
+        Ok(self.write_whole(buffer))
     }
-    Ok(write_whole(buffer, address, command, content))
+
+    // Writes the answer into a buffer that has room for it.
+    fn write_whole(&self, buffer: &mut [u8]) -> usize
+        requires { 11 + length self.now.content.now ≤ length buffer.old }
+        ensures length { result ≡ 11 + length self.now.content.now }
+        ensures wrote { buffer.new ≡ answer_of self.now.address self.now.command self.now.content.now ++ drop result buffer.old }
+        ensures reads_back { read_back (take result buffer.new) ≡ Some (answer_with self.now.address self.now.command self.now.content.now) }
+    {
+        let end = self.write_body(buffer);
+        seal(buffer, end)
+    }
+
+    // Writes STX and what is summed: the number, the command, the data and ETX.
+    fn write_body(&self, buffer: &mut [u8]) -> usize
+        requires { 11 + length self.now.content.now ≤ length buffer.old }
+        ensures end { result ≡ 8 + length self.now.content.now }
+        ensures front { take result buffer.new ≡ 2 ∷ body_of self.now.address self.now.command self.now.content.now }
+        ensures rest { (n : ℕ) → result ≤ n → drop n buffer.new ≡ drop n buffer.old }
+    {
+        let stx_end = put(buffer, 0, &[STX]);
+        let address_end = put(buffer, stx_end, &self.address);
+        let command_end = put(buffer, address_end, &self.command);
+        let content_end = put(buffer, command_end, self.content);
+        put(buffer, content_end, &[ETX])
+    }
 }

@@ -1,21 +1,13 @@
 // The checksum of frames and answers.
-ghost use Rattle.std.specs.Prelude.{◌≡◌, ◌+◌, ◌%◌, sum};
+ghost use Rattle.std.specs.Prelude.{◌≡◌};
 ghost use Rattle.frame.specs.Checksum.{checksum_of};
 
-// The low eight bits of a sum that goes on with the octets.
-fn sum_from(start: u8, octets: &[u8]) -> u8
-    ensures { result ≡ (start + sum octets.now) % 256 }
-{
-    let mut sum = start;
-    for octet in octets {
-        sum = sum.wrapping_add(*octet);
-    }
-    sum
-}
-
 // The low eight bits of the sum of the octets.
+#[tactic(auto, using(crate::proofs::Sums::low_by_fold))]
 pub fn checksum(octets: &[u8]) -> u8
     ensures { result ≡ checksum_of octets.now }
 {
-    sum_from(0, octets)
+    octets
+        .iter()
+        .fold(0, |sum: u8, octet| sum.wrapping_add(*octet))
 }

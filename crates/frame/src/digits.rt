@@ -1,20 +1,21 @@
 // Capital hexadecimal digits.
-ghost use Rattle.std.specs.Prelude.{◌≡◌, ℕ, ◌+◌, ◌-◌, ◌*◌, ◌/◌, ◌%◌, ◌<◌, ◌≤◌, List, [], ◌∷◌};
+ghost use Rattle.std.specs.Prelude.{◌≡◌, ◌<◌};
 ghost use Rattle.frame.specs.Digits.{digit_of, value_of, octet_of, two_digits, four_digits};
 
 // The digit of a value below 16.
+// Kept: `char::from_digit` is no plainer, since it writes small letters and gives a char.
 fn digit(value: u8) -> u8
     requires { value < 16 }
     ensures { result ≡ digit_of value }
 {
-    if value < 10 {
-        b'0' + value
-    } else {
-        b'A' + (value - 10)
+    match value {
+        0..=9 => b'0' + value,
+        _ => b'A' + (value - 10),
     }
 }
 
 // The value of a digit, if the octet is one. Every digit of every frame is read here.
+// Kept: `char::to_digit` is no plainer, since it reads small letters too, which are no digits on the line.
 pub fn value(digit: u8) -> Option<u8>
     ensures { result ≡ value_of digit }
 {
@@ -42,10 +43,10 @@ pub fn two_digits(octet: u8) -> [u8; 2]
 }
 
 // The four digits of a number of 16 bits.
+// Kept: four octets by name are plainer than two pairs flattened and made an array again.
 pub fn four_digits(number: u16) -> [u8; 4]
     ensures { result ≡ four_digits number }
 {
-    let high = two_digits((number / 256) as u8);
-    let low = two_digits((number % 256) as u8);
+    let [high, low] = number.to_be_bytes().map(two_digits);
     [high[0], high[1], low[0], low[1]]
 }

@@ -10,17 +10,18 @@ pub enum Layer {
     Command,
 }
 
-// The faults by which a frame is dropped in silence.
+// The faults by which a frame is dropped in silence, each with the number under which it is told.
 #[derive(Clone, Copy, Debug, PartialEq, Eq)]
 pub enum Fault {
-    DamagedOctet,
-    TooLong,
-    TooShort,
-    WrongChecksum,
-    UnknownStation,
+    DamagedOctet = 21,
+    TooLong = 22,
+    TooShort = 23,
+    WrongChecksum = 24,
+    UnknownStation = 25,
 }
 
 // A dropped frame has no position to tell.
+// Kept: an Option is no plainer, since the 0 itself is what is told.
 const NO_POSITION: u8 = 0;
 
 impl Fault {
@@ -28,13 +29,7 @@ impl Fault {
     pub fn number(self) -> u8
         ensures { result ≡ number_of self }
     {
-        match self {
-            Fault::DamagedOctet => 21,
-            Fault::TooLong => 22,
-            Fault::TooShort => 23,
-            Fault::WrongChecksum => 24,
-            Fault::UnknownStation => 25,
-        }
+        self as u8
     }
 
     // The layer that finds the fault.

@@ -8,7 +8,6 @@ pub mod checksum;
 pub mod digits;
 pub mod fault;
 pub mod parse;
-pub mod receive;
 pub mod receiver;
 pub mod request;
 pub mod signal;

@@ -1,4 +1,5 @@
 // What comes from the line: one octet, or the report of a damaged one.
+// Kept: a `Result<u8, Damaged>` is no plainer, since damage is received like an octet and never passed on by `?`.
 #[derive(Clone, Copy, Debug, PartialEq, Eq)]
 pub enum Signal {
     Octet(u8),

@@ -6,7 +6,7 @@ use Rattle.frame.specs.Digits.{two_digits}
 use Rattle.frame.specs.Checksum.{checksum_of}
 use Rattle.frame.specs.Answers.{body_of, sealed, answer_of, read_back}
 use Rattle.frame.proofs.Codes.{reads_back}
-use Rattle.frame.proofs.answer.write_whole.Goals as goal
+use Rattle.frame.proofs.answer.Answer.write_whole.Goals as goal
 
 -- a front of STX and a body, sealed
 sealed_is : (b body : List ℕ) (e : ℕ) → take e b ≡ 2 ∷ body → take e b ++ two_digits (checksum_of (between 1 e b)) ++ 13 ∷ [] ≡ sealed body
@@ -20,9 +20,9 @@ whole b front rest n p q = sym (take-append-drop n b) ∙ cc
 
 pub returns : goal.returns
 returns c =
-    let address = c.args.address in
-    let command = c.args.command in
-    let content = c.args.content.now in
+    let address = c.args.self.now.address in
+    let command = c.args.self.now.command in
+    let content = c.args.self.now.content.now in
     let r = c.seal.result in
     let front : take r c.seal.new.buffer ≡ answer_of address command content =
     c.seal.ensures.front ∙ sealed_is c.write_body-end.new.buffer (body_of address command content) c.write_body-end.result c.write_body-end.ensures.front in
