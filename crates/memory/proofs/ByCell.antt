@@ -1,19 +1,22 @@
 -- What the pages of a chip's image hold, and what a write of two octets makes of them.
-use Rattle.std.proofs.Common.{◌≡◌, ℕ, ◌+◌, ◌*◌, ◌/◌, ◌%◌, ◌<◌, ◌≤◌, ◌≢◌, List, [], length, get_or, set, sym, ap, ◌∙◌, arith, length-set}
+use Rattle.std.proofs.Common.{◌≡◌, ℕ, ◌+◌, ◌*◌, ◌/◌, ◌%◌, ◌<◌, ◌≤◌, min, ◌≢◌, List, [], Ok, length, get_or, set, sym, ap, ◌∙◌, arith, length-set}
 use Rattle.std.proofs.lemmas.List.{get_or-set_same, get_or-set_other}
 use Rattle.std.proofs.lemmas.Nat.{mul-add-lt, div-mul-add, mod-mul-add}
+use Rattle.std.proofs.lemmas.Bool.{lt-ltb}
 use Rattle.memory.specs.Grid.{grid, whole}
-use Rattle.memory.specs.Chip.{place, word, with_word, by_cell}
+use Rattle.memory.specs.Model.{answered, stored}
+use Rattle.memory.specs.Chip.{place, word, with_word, by_cell, imprinted}
 use Rattle.memory.specs.Paging.{length_grid}
 use Rattle.memory.proofs.Grids.{grid_cell, grid_store}
+use Rattle.memory.proofs.Steps.{answered_ok, stored_in}
 
-pub length-by_cell : (xs : List ℕ) → length (by_cell xs) ≡ whole (length xs) 56
+pub length_by_cell : (xs : List ℕ) → length (by_cell xs) ≡ whole (length xs) 56
 unfolding by_cell
-length-by_cell xs = length_grid _ _
+length_by_cell xs = length_grid _ _
 
 pub within : (xs : List ℕ) (p c : ℕ) → p < length (by_cell xs) → c < 28 → place (length (by_cell xs)) p c + 1 < length xs
 within xs p c h k =
-    let e = length-by_cell xs in
+    let e = length_by_cell xs in
     let l = mul-add-lt c (length (by_cell xs)) p 28 k h in omega arith
 
 -- the pages of an image that has room for n
@@ -22,17 +25,15 @@ pages n xs = grid n (λ p c. word xs (place n p c))
 
 by_cell_pages : (xs : List ℕ) → by_cell xs ≡ pages (length (by_cell xs)) xs
 unfolding by_cell pages
-by_cell_pages xs = ap (λ n. grid n (λ p c. word xs (place n p c))) (sym (length-by_cell xs))
+by_cell_pages xs = ap (λ n. grid n (λ p c. word xs (place n p c))) (sym (length_by_cell xs))
 
-pub by_cell_cell : (xs : List ℕ) (p c i : ℕ) → i ≡ place (length (by_cell xs)) p c → p < length (by_cell xs) → c < 28
-    → word xs i ≤ 65535 → get_or (get_or (by_cell xs) p []) c 0 ≡ word xs i
+by_cell_cell : (xs : List ℕ) (p c : ℕ) → p < length (by_cell xs) → c < 28 → get_or (get_or (by_cell xs) p []) c 0 ≡ min (word xs (place (length (by_cell xs)) p c)) 65535
 unfolding pages
-by_cell_cell xs p c i e h k fit =
+by_cell_cell xs p c h k =
     let n = length (by_cell xs) in
-    let same : word xs (place n p c) ≡ word xs i = ap (word xs) (sym e) in
-    ap (λ ps. get_or (get_or ps p []) c 0) (by_cell_pages xs) ∙ grid_cell n (λ q d. word xs (place n q d)) p c h k (omega arith) ∙ same
+    ap (λ ps. get_or (get_or ps p []) c 0) (by_cell_pages xs) ∙ grid_cell n (λ q d. word xs (place n q d)) p c h k
 
-pub put_word : (xs : List ℕ) (i j a b v : ℕ) → i ≡ j → a ≡ v / 256 → b ≡ v % 256 → set (set xs i a) (i + 1) b ≡ with_word xs j v
+put_word : (xs : List ℕ) (i j a b v : ℕ) → i ≡ j → a ≡ v / 256 → b ≡ v % 256 → set (set xs i a) (i + 1) b ≡ with_word xs j v
 put_word xs i j a b v e f g = cc
 
 length-with_word : (xs : List ℕ) (i v : ℕ) → length (with_word xs i v) ≡ length xs
@@ -69,13 +70,33 @@ pages_store xs n p c v h k fit l =
     (λ d m ne. word_other xs (c * n + p) (d * n + p) v (apart_cell n p c d h ne))
     (λ q d m o ne. word_other xs (c * n + p) (d * n + q) v (apart_page n p c q d h m ne))
 
-pub by_cell_store : (xs : List ℕ) (p c v : ℕ) → p < length (by_cell xs) → c < 28 → v ≤ 65535
+by_cell_store : (xs : List ℕ) (p c v : ℕ) → p < length (by_cell xs) → c < 28 → v ≤ 65535
     → by_cell (with_word xs (place (length (by_cell xs)) p c) v) ≡ set (by_cell xs) p (set (get_or (by_cell xs) p []) c v)
 by_cell_store xs p c v h k fit =
     let n = length (by_cell xs) in
     let ys = with_word xs (place n p c) v in
-    let same : length (by_cell ys) ≡ n = length-by_cell ys ∙ ap (λ m. whole m 56) (length-with_word xs (place n p c) v) ∙ sym (length-by_cell xs) in
+    let same : length (by_cell ys) ≡ n = length_by_cell ys ∙ ap (λ m. whole m 56) (length-with_word xs (place n p c) v) ∙ sym (length_by_cell xs) in
     by_cell_pages ys
     ∙ ap (λ m. pages m ys) same
     ∙ pages_store xs n p c v h k fit (within xs p c h k)
     ∙ ap (λ ps. set ps p (set (get_or ps p []) c v)) (sym (by_cell_pages xs))
+
+pub fetched_at : (xs : List ℕ) (p c i : ℕ) → Ok i ≡ answered (by_cell xs) p c (place (length (by_cell xs)) p c) → word xs i ≤ 65535
+    → get_or (get_or (by_cell xs) p []) c 0 ≡ word xs i
+fetched_at xs p c i e fit =
+    let k = answered_ok (by_cell xs) p c _ i e in
+    let same : word xs (place (length (by_cell xs)) p c) ≡ word xs i = ap (word xs) (sym k.2) in
+    let cell = by_cell_cell xs p c k.0 k.1 in
+    omega arith
+
+pub stored_at : (xs : List ℕ) (p c i a b v : ℕ) → Ok i ≡ answered (by_cell xs) p c (place (length (by_cell xs)) p c) → a ≡ v / 256 → b ≡ v % 256 → v ≤ 65535
+    → by_cell (set (set xs i a) (i + 1) b) ≡ stored (by_cell xs) p c v
+stored_at xs p c i a b v e high low fit =
+    let k = answered_ok (by_cell xs) p c _ i e in
+    ap by_cell (put_word xs i _ a b v k.2 high low) ∙ by_cell_store xs p c v k.0 k.1 fit ∙ sym (stored_in (by_cell xs) p c v k.0 k.1)
+
+pub imprinted_at : (xs : List ℕ) (p c i a b v : ℕ) → Ok i ≡ answered (by_cell xs) p c (place (length (by_cell xs)) p c) → a ≡ v / 256 → b ≡ v % 256
+    → set (set xs i a) (i + 1) b ≡ imprinted xs p c v
+imprinted_at xs p c i a b v e high low =
+    let k = answered_ok (by_cell xs) p c _ i e in
+    put_word xs i _ a b v k.2 high low ∙ simp (lt-ltb p (length (by_cell xs)) k.0, lt-ltb c 28 k.1)

@@ -23,8 +23,8 @@ grid_row : (n : ℕ) (f : ℕ → ℕ → ℕ) (p : ℕ) → p < n → get_or (g
 unfolding grid row
 grid_row n f p h = get_or-map-range_with_len (λ q. map (λ c. min (f q c) 65535) (range_with_len 0 28)) 0 n p p [] h (zero-add p)
 
-pub grid_cell : (n : ℕ) (f : ℕ → ℕ → ℕ) (p c : ℕ) → p < n → c < 28 → f p c ≤ 65535 → get_or (get_or (grid n f) p []) c 0 ≡ f p c
-grid_cell n f p c h k fit = ap (λ r. get_or r c 0) (grid_row n f p h) ∙ row_capped (f p) c k ∙ (let e : min (f p c) 65535 ≡ f p c = omega arith in e)
+pub grid_cell : (n : ℕ) (f : ℕ → ℕ → ℕ) (p c : ℕ) → p < n → c < 28 → get_or (get_or (grid n f) p []) c 0 ≡ min (f p c) 65535
+grid_cell n f p c h k = ap (λ r. get_or r c 0) (grid_row n f p h) ∙ row_capped (f p) c k
 
 row_same : (f g : ℕ → ℕ) → ((d : ℕ) → d < 28 → g d ≡ f d) → row g ≡ row f
 row_same f g e = ext_get_or 0 (row g) (row f) (length-row g ∙ sym (length-row f)) (λ d h.

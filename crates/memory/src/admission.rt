@@ -12,7 +12,7 @@ pub(crate) fn admit(page_count: u16, page: u16, cell: u8) -> Result<(), MemoryRe
     if page >= page_count {
         return Err(MemoryRefusal::NoPage);
     }
-    if cell as usize >= CELLS {
+    if usize::from(cell) >= CELLS {
         return Err(MemoryRefusal::NoCell);
     }
     Ok(())
@@ -22,5 +22,5 @@ pub(crate) fn admit(page_count: u16, page: u16, cell: u8) -> Result<(), MemoryRe
 pub(crate) fn most_of(pages: usize) -> u16
     ensures { result ≡ min pages 65535 }
 {
-    pages.min(MOST_PAGES as usize) as u16
+    u16::try_from(pages).unwrap_or(MOST_PAGES)
 }

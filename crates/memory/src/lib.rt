@@ -24,7 +24,7 @@ pub use working::WorkingMemory;
 pub const CELLS: usize = 28;
 
 /// How many pages a memory has at most; they are numbered from 0.
-pub const MOST_PAGES: u16 = 65535;
+pub const MOST_PAGES: u16 = u16::MAX;
 
 /// Why a memory refuses to fetch or to store. It asks for the page first.
 #[derive(Clone, Copy, Debug, PartialEq, Eq)]
@@ -47,6 +47,7 @@ pub trait SettingsMemory {
         ensures { result ≡ length (pages self.now) };
 
     /// What a cell holds.
+    // Kept: page and cell are two numbers, since whether a memory has such a cell is what each call asks.
     fn fetch(&self, page: u16, cell: u8) -> Result<u16, MemoryRefusal>
         ensures { result ≡ fetched (pages self.now) page cell };
 

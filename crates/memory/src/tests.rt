@@ -8,9 +8,7 @@ fn a_chip_image_holds_a_cell_of_all_pages_before_the_next(rt: HostRuntime) {
     };
     assert_eq!(rt; image.store(1, 2, 0x1234), Ok(()));
     drop(image);
-    assert!(rt;
-        octets[9] == 0xEE && octets[10] == 0x12 && octets[11] == 0x34 && octets[12] == 0xEE
-    );
+    assert!(rt; octets[9..13] == [0xEE, 0x12, 0x34, 0xEE]);
 }
 
 #[test]

@@ -1,5 +1,5 @@
 // Working memory: a lent slice of cells, page after page.
-ghost use Rattle.std.specs.Prelude.{◌≡◌, ◌+◌, ◌*◌, ◌<◌, [], length, slice_index, slice_index_or, slice_set};
+ghost use Rattle.std.specs.Prelude.{◌≡◌, ◌+◌, ◌*◌, ◌<◌, length, IfOk};
 ghost use Rattle.memory.specs.Model.{answered, stored};
 ghost use Rattle.memory.specs.Working.{by_page, written};
 ghost use Rattle.memory.specs.Paging.{by_page_paged};
@@ -13,52 +13,44 @@ pub struct WorkingMemory<'a> {
     pub cells: &'a mut [u16],
 }
 
+impl WorkingMemory<'_> {
+    /// Where a cell lies in the slice, unless it is refused.
+    fn place(&self, page: u16, cell: u8) -> Result<usize, MemoryRefusal>
+        ensures at { result ≡ answered (by_page self.now.cells.now) page cell (28 * page + cell) }
+        ensures within { IfOk result (λ i. i < length self.now.cells.now) }
+    {
+        admit(self.page_count(), page, cell)?;
+        Ok(CELLS * usize::from(page) + usize::from(cell))
+    }
+}
+
 impl SettingsMemory for WorkingMemory<'_> {
     ghost pages = { λ m. by_page m.cells.now };
 
     ghost paged = { λ m. by_page_paged m.cells.now };
 
+    #[tactic(auto, using(crate::proofs::ByPage::length_by_page))]
     fn page_count(&self) -> u16 {
-        count(self.cells)
+        most_of(self.cells.len() / CELLS)
     }
 
+    #[tactic(auto, using(crate::proofs::ByPage::fetched_at, crate::proofs::Steps::answered_ok))]
     fn fetch(&self, page: u16, cell: u8) -> Result<u16, MemoryRefusal> {
-        admit(self.page_count(), page, cell)?;
-        Ok(read(self.cells, page, cell))
+        // Kept: with no `let` here the proof does not know that the cell fits 16 bits.
+        let value = self.cells[self.place(page, cell)?];
+        Ok(value)
     }
 
     /// Of the whole slice, what belongs to no page included, one element changes, or none.
+    #[tactic(auto, using(crate::proofs::ByPage::stored_at, crate::proofs::ByPage::written_at, crate::proofs::Steps::answered_ok))]
     fn store(&mut self, page: u16, cell: u8, value: u16) -> Result<(), MemoryRefusal>
         ensures answer { result ≡ answered (by_page self.old.cells.now) page cell tt }
         ensures left { by_page self.new.cells.now ≡ stored (by_page self.old.cells.now) page cell value }
         ensures raw { self.new.cells.now ≡ written self.old.cells.now page cell value }
         ensures lent { self.new.cells.ghost_name ≡ self.old.cells.ghost_name }
     {
-        admit(self.page_count(), page, cell)?;
-        write(self.cells, page, cell, value);
+        let place = self.place(page, cell)?;
+        self.cells[place] = value;
         Ok(())
     }
-}
-
-fn count(cells: &[u16]) -> u16
-    ensures { result ≡ length (by_page cells.now) }
-{
-    most_of(cells.len() / CELLS)
-}
-
-fn read(cells: &[u16], page: u16, cell: u8) -> u16
-    requires page { page < length (by_page cells.now) }
-    requires cell { cell < 28 }
-    ensures { result ≡ slice_index (slice_index_or (by_page cells.now) page []) cell }
-{
-    cells[CELLS * page as usize + cell as usize]
-}
-
-fn write(cells: &mut [u16], page: u16, cell: u8, value: u16)
-    requires page { page < length (by_page cells.old) }
-    requires cell { cell < 28 }
-    ensures left { by_page cells.new ≡ slice_set (by_page cells.old) page (slice_set (slice_index_or (by_page cells.old) page []) cell value) }
-    ensures raw { cells.new ≡ slice_set cells.old (28 * page + cell) value }
-{
-    cells[CELLS * page as usize + cell as usize] = value;
 }
