@@ -1,10 +1,9 @@
 -- What the tests of a moment say.
-use Rattle.std.proofs.Common.{◌≡◌, ℕ, ◌<◌, ◌≤◌, true, Decides, ap}
-use Rattle.std.proofs.lemmas.Bool.{and_parts, and_from, ltb-true, leb-true, lt-ltb, le-leb}
+use Rattle.std.proofs.Common.{◌≡◌, ℕ, ◌<◌, ◌≤◌, true, Decides, ap, arith}
+use Rattle.std.proofs.lemmas.Bool.Decides.{nat_tests}
 use Rattle.std.proofs.lemmas.Bool.Decides.{Decides-eqb, Decides-and, Decides-like}
 use Rattle.calendar.specs.Calendar.{days_of_month}
-use Rattle.calendar.specs.Moment.{Moment, moment, moment_of, exists, same_moment}
-use Rattle.calendar.specs.declared.date_time.DateTime.{DateTime}
+use Rattle.calendar.specs.Moment.{Moment, moment, moment_of, exists, EveryTimeExists, same_moment}
 
 pub record Exists (m : Moment) : Type 0 where
   pub within_century : m.year < 100
@@ -19,35 +18,22 @@ pub record Exists (m : Moment) : Type 0 where
 pub exists_parts : (m : Moment) → exists m ≡ true → Exists m
 unfolding exists
 exists_parts m e =
-    let dt = and_parts _ _ e in
-    let a = and_parts _ _ dt.0 in
-    let b = and_parts _ _ a.1 in
-    let c = and_parts _ _ b.1 in
-    let d = and_parts _ _ c.1 in
-    let t = and_parts _ _ dt.1 in
-    let u = and_parts _ _ t.1 in
     record {
-      within_century = ltb-true m.year 100 a.0;
-      from_january = leb-true 1 m.month b.0;
-      to_december = leb-true m.month 12 c.0;
-      from_first = leb-true 1 m.day d.0;
-      to_last = leb-true m.day (days_of_month m.year m.month) d.1;
-      within_day = ltb-true m.hour 24 t.0;
-      within_hour = ltb-true m.minute 60 u.0;
-      within_minute = ltb-true m.second 60 u.1;
+      within_century = grind (arith, nat_tests);
+      from_january = grind (arith, nat_tests);
+      to_december = grind (arith, nat_tests);
+      from_first = grind (arith, nat_tests);
+      to_last = grind (arith, nat_tests);
+      within_day = grind (arith, nat_tests);
+      within_hour = grind (arith, nat_tests);
+      within_minute = grind (arith, nat_tests);
     }
 
 pub exists_from : (m : Moment) → Exists m → exists m ≡ true
 unfolding exists
-exists_from m h =
-    and_from _ _
-    (and_from _ _ (lt-ltb m.year 100 h.within_century)
-    (and_from _ _ (le-leb 1 m.month h.from_january)
-    (and_from _ _ (le-leb m.month 12 h.to_december)
-    (and_from _ _ (le-leb 1 m.day h.from_first) (le-leb m.day (days_of_month m.year m.month) h.to_last)))))
-    (and_from _ _ (lt-ltb m.hour 24 h.within_day) (and_from _ _ (lt-ltb m.minute 60 h.within_hour) (lt-ltb m.second 60 h.within_minute)))
+exists_from m h = grind (arith, nat_tests)
 
-pub time_exists : (t : DateTime) → exists (moment_of t) ≡ true
+pub time_exists : EveryTimeExists
 time_exists t =
     exists_from (moment_of t)
     record {

@@ -28,6 +28,10 @@ twelve_digits cs = length cs == 12 && all_digits cs
 abbrev pub number_at : List ℕ → ℕ → ℕ
 number_at cs k = (slice_index cs k - 48) * 10 + (slice_index cs (k + 1) - 48)
 
+-- the number that two digits write
+unfoldable pub number_of : ℕ → ℕ → Result ℕ TimeFault
+number_of tens ones = cond (is_digit tens && is_digit ones) (Ok ((tens - 48) * 10 + (ones - 48))) (Err NotDigits)
+
 -- the moment that twelve digits write
 abbrev pub moment_at : List ℕ → Moment
 moment_at cs = moment (number_at cs 0) (number_at cs 2) (number_at cs 4) (number_at cs 6) (number_at cs 8) (number_at cs 10)

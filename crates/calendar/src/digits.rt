@@ -1,116 +1,80 @@
-// The twelve digits of a time.
-ghost use Rattle.std.specs.Prelude.{◌≡◌, ◌+◌, ◌/◌, ◌%◌, ◌<◌, true};
-ghost use Rattle.std.specs.Option.{option_map};
+// A time as its twelve digits, YYMMDDhhmmss.
+ghost use Rattle.std.specs.Prelude.{◌≡◌, slice_index};
 ghost use Rattle.std.specs.Result.{result_map_both as mapped_both};
-ghost use Rattle.calendar.specs.Moment.{moment_of, existing};
-ghost use Rattle.calendar.specs.Digits.{digits_of, is_digit, all_digits, twelve_digits, number_at, moment_at, read_of, ReadsWhatWasWritten};
+ghost use Rattle.calendar.specs.Moment.{moment_of};
+ghost use Rattle.calendar.specs.Digits.{two_digits, digits_of, number_of, read_of, ReadsWhatWasWritten};
 
 use crate::date_time::DateTime;
 use crate::time_fault::TimeFault;
 
-fn tens(n: u8) -> u8
-    ensures { result ≡ 48 + n / 10 }
+// The two decimal digits of a number below 100; the first of a larger one is no digit.
+pub fn two_digits(number: u8) -> [u8; 2]
+    ensures { result ≡ two_digits number }
 {
-    b'0' + n / 10
+    [b'0' + number / 10, b'0' + number % 10]
 }
 
-fn ones(n: u8) -> u8
-    ensures { result ≡ 48 + n % 10 }
+// The number that two decimal digits write.
+#[tactic(auto, unfolding(crate::specs::Digits::number_of))]
+fn number(digits: [u8; 2]) -> Result<u8, TimeFault>
+    ensures { result ≡ number_of (slice_index digits 0) (slice_index digits 1) }
 {
-    b'0' + n % 10
-}
-
-fn is_digit(octet: u8) -> bool
-    ensures { result ≡ is_digit octet }
-{
-    b'0' <= octet && octet <= b'9'
-}
-
-fn all_digits(octets: &[u8]) -> bool
-    ensures { result ≡ all_digits octets.now }
-{
-    for octet in octets {
-        if !is_digit(*octet) {
-            return false;
-        }
+    let [tens, ones] = digits;
+    if tens.is_ascii_digit() && ones.is_ascii_digit() {
+        Ok((tens - b'0') * 10 + (ones - b'0'))
+    } else {
+        Err(TimeFault::NotDigits)
     }
-    true
-}
-
-fn twelve_digits(octets: &[u8]) -> bool
-    ensures { result ≡ twelve_digits octets.now }
-{
-    octets.len() == 12 && all_digits(octets)
-}
-
-fn number_at(octets: &[u8], k: usize) -> u8
-    requires digits { twelve_digits octets.now ≡ true }
-    requires within { k < 11 }
-    ensures { result ≡ number_at octets.now k }
-{
-    (octets[k] - b'0') * 10 + (octets[k + 1] - b'0')
 }
 
 impl DateTime {
-    fn written(self) -> [u8; 12]
-        ensures { result ≡ digits_of (moment_of self) }
-    {
-        [
-            tens(self.year),
-            ones(self.year),
-            tens(self.month),
-            ones(self.month),
-            tens(self.day),
-            ones(self.day),
-            tens(self.hour),
-            ones(self.hour),
-            tens(self.minute),
-            ones(self.minute),
-            tens(self.second),
-            ones(self.second),
-        ]
-    }
-
     // YYMMDDhhmmss.
+    // Kept: a `From` would not say in which of its forms the time is written.
+    #[tactic(auto, unfolding(crate::specs::Digits::digits_of))]
     pub fn digits(self) -> [u8; 12]
         ensures { result ≡ digits_of (moment_of self) }
     {
-        self.written()
+        // Kept: tried `.map(two_digits)`, `as_flattened` and `as_array`; what is returned did not close.
+        let [year_tens, year_ones] = two_digits(self.year);
+        let [month_tens, month_ones] = two_digits(self.month);
+        let [day_tens, day_ones] = two_digits(self.day);
+        let [hour_tens, hour_ones] = two_digits(self.hour);
+        let [minute_tens, minute_ones] = two_digits(self.minute);
+        let [second_tens, second_ones] = two_digits(self.second);
+        [
+            year_tens,
+            year_ones,
+            month_tens,
+            month_ones,
+            day_tens,
+            day_ones,
+            hour_tens,
+            hour_ones,
+            minute_tens,
+            minute_ones,
+            second_tens,
+            second_ones,
+        ]
     }
 
-    // The time that twelve digits write, if there is one.
-    fn at(octets: &[u8]) -> Option<DateTime>
-        requires { twelve_digits octets.now ≡ true }
-        ensures { option_map moment_of result ≡ existing (moment_at octets.now) }
-    {
-        DateTime::new(
-            number_at(octets, 0),
-            number_at(octets, 2),
-            number_at(octets, 4),
-            number_at(octets, 6),
-            number_at(octets, 8),
-            number_at(octets, 10),
-        )
-    }
-
-    fn parsed(octets: &[u8]) -> Result<DateTime, TimeFault>
-        ensures value { mapped_both moment_of (λ e. e) result ≡ read_of octets.now }
-        ensures reads_what_was_written { ReadsWhatWasWritten }
-    {
-        if !twelve_digits(octets) {
-            return Err(TimeFault::NotDigits);
-        }
-        match DateTime::at(octets) {
-            Some(time) => Ok(time),
-            None => Err(TimeFault::NoSuchTime),
-        }
-    }
-
+    // Kept: a `TryFrom<&[u8]>` would be a second name for this, with the same clauses again.
     // Whether all are digits is asked before whether there is such a time.
+    #[tactic(auto, using(crate::proofs::Octets::reading))]
     pub fn read(octets: &[u8]) -> Result<DateTime, TimeFault>
         ensures value { mapped_both moment_of (λ e. e) result ≡ read_of octets.now }
         ensures reads_what_was_written { ReadsWhatWasWritten }
     {
-        DateTime::parsed(octets)
+        let ([year, month, day, hour, minute, second], []) = octets.as_chunks() else {
+            return Err(TimeFault::NotDigits);
+        };
+        DateTime::new(
+            number(*year)?,
+            number(*month)?,
+            number(*day)?,
+            number(*hour)?,
+            number(*minute)?,
+            number(*second)?,
+        )
+        .ok_or(TimeFault::NoSuchTime)
     }
 }

@@ -4,7 +4,7 @@
 
 mod comparing;
 pub mod date_time;
-mod digits;
+pub mod digits;
 mod half_hours;
 mod making;
 mod stepping;

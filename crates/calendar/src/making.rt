@@ -19,7 +19,7 @@ pub(crate) fn days_of_month(year: u8, month: u8) -> u8
 fn is_date(year: u8, month: u8, day: u8) -> bool
     ensures { result ≡ is_date year month day }
 {
-    year < 100 && 1 <= month && month <= 12 && 1 <= day && day <= days_of_month(year, month)
+    year < 100 && (1..=12).contains(&month) && (1..=days_of_month(year, month)).contains(&day)
 }
 
 fn is_time(hour: u8, minute: u8, second: u8) -> bool
@@ -29,7 +29,9 @@ fn is_time(hour: u8, minute: u8, second: u8) -> bool
 }
 
 impl DateTime {
+    // Kept: six parameters, since the struct that they would stand in is this type, which holds only times that exist.
     // The time of these numbers, if there is one.
+    #[tactic(auto, unfolding(crate::specs::Moment::exists))]
     pub fn new(year: u8, month: u8, day: u8, hour: u8, minute: u8, second: u8) -> Option<DateTime>
         ensures { option_map moment_of result ≡ existing (moment year month day hour minute second) }
     {

@@ -41,6 +41,7 @@ impl DateTime {
         }
     }
 
+    // Kept: hours, minutes and seconds carry alike, but a function of all three would be given the field, its limit and the next.
     pub(crate) fn one_hour_on(mut self) -> DateTime
         ensures { moment_of result ≡ hour_on (moment_of self) }
     {
@@ -65,7 +66,9 @@ impl DateTime {
         }
     }
 
-    fn second_on(mut self) -> DateTime
+    // 2000 comes after 2099.
+    #[tactic(auto, using(crate::proofs::Promises::running), unfolding(crate::specs::Carry::second_on))]
+    pub fn one_second_on(mut self) -> DateTime
         ensures value { moment_of result ≡ second_on (moment_of self) }
         ensures time_exists { EveryTimeExists }
         ensures second_on_exists { SecondOnExists }
@@ -83,20 +86,5 @@ impl DateTime {
             self.second = 0;
             self.one_minute_on()
         }
-    }
-
-    // 2000 comes after 2099.
-    pub fn one_second_on(self) -> DateTime
-        ensures value { moment_of result ≡ second_on (moment_of self) }
-        ensures time_exists { EveryTimeExists }
-        ensures second_on_exists { SecondOnExists }
-        ensures one_more { SecondOnIsOneMore }
-        ensures as_many_more { SecondsOnAreAsManyMore }
-        ensures tells_times_apart { SecondsTellTimesApart }
-        ensures leap_day { February29FollowsIn2000 }
-        ensures no_leap_day { March1FollowsIn2001 }
-        ensures begins_anew { CenturyBeginsAnew }
-    {
-        self.second_on()
     }
 }
