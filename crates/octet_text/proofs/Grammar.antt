@@ -10,7 +10,8 @@ use Rattle.octet_text.specs.declared.position.Position.{Position}
 use Rattle.octet_text.specs.declared.hear.Turn.{Turn}
 use Rattle.octet_text.specs.declared.reader.State.{State}
 use Rattle.octet_text.specs.declared.reader.State.TheVariants.{BetweenPairs, InsidePair, InComment}
-use Rattle.octet_text.specs.Digits.{digit_of, value_of, two_digits}
+use Rattle.frame.specs.Digits.{digit_of, two_digits}
+use Rattle.octet_text.specs.Digits.{value_of}
 use Rattle.octet_text.specs.Lines.{spaced, pairs_of, line_of}
 use Rattle.octet_text.specs.Positions.{newline, first_position, position_behind}
 use Rattle.octet_text.specs.Promises.{newlines, Writes, nothing, white_space, pair, comment, last_comment, Octets, ReadsHexadecimalText, CommentLinesDoNotMatter, LinesReadBack}

@@ -1,3 +1,4 @@
 pub mod Steps
 pub mod Grammar
 pub mod Faults
+pub mod Promises

@@ -1,21 +1,12 @@
 -- One turn of each loop.
-use Rattle.std.proofs.Common.{◌≡◌, ℕ, ◌+◌, ◌-◌, ◌<◌, List, [], ◌∷◌, ◌++◌, length, get_or, take, drop, Ok, Err, Result, sym, refl, ap, ◌∙◌, arith}
-use Rattle.std.proofs.lemmas.List.{append_assoc, at_drop_more, take_rest}
+use Rattle.std.proofs.Common.{◌≡◌, ℕ, ◌+◌, ◌<◌, List, [], ◌∷◌, ◌++◌, length, get_or, drop, Ok, Err, Result, sym, refl, ap, ◌∙◌}
+use Rattle.std.proofs.lemmas.List.{at_drop_all, at_drop_more}
 use Rattle.std.specs.Option.{option_to_list}
 use Rattle.octet_text.specs.declared.fault.TextFault.{TextFault}
 use Rattle.octet_text.specs.declared.text.ReadFault.{ReadFault}
 use Rattle.octet_text.specs.declared.text.ReadFault.TheVariants.{Text, Memory}
-use Rattle.octet_text.specs.Digits.{two_digits}
-use Rattle.octet_text.specs.Lines.{spaced, pairs_of}
 use Rattle.octet_text.specs.Texts.{Refuses}
 use Rattle.octet_text.specs.Reading.{Reading, Progress, and_then, read_one, read_on}
-
--- the octet at i, and those behind it
-pub spaced_more : (front longer xs : List ℕ) (i : ℕ) → i < length xs → longer ≡ front ++ spaced (get_or xs i 0 ∷ []) → longer ++ spaced (drop (i + 1) xs) ≡ front ++ spaced (drop i xs)
-spaced_more front longer xs i h e =
-    ap (λ begun. begun ++ spaced (drop (i + 1) xs)) e
-    ∙ append_assoc front (spaced (get_or xs i 0 ∷ [])) (spaced (drop (i + 1) xs))
-    ∙ ap (λ rest. front ++ rest) (sym (at_drop_more spaced xs i 0 h))
 
 -- a text in two parts
 pub read_on-append : (r : Reading) (octets xs ys : List ℕ) → read_on r octets (xs ++ ys) ≡ and_then (read_on r octets xs) (λ p. read_on p.reader p.octets ys)
@@ -49,12 +40,4 @@ pub refuses_text : (e : ReadFault) (r : Reading) (octets text : List ℕ) (i : �
 refuses_text (Text f) r octets text i given h same a = sym same ∙ read_refused r octets text i f h a
 refuses_text Memory r octets text i given h same a = tt
 
--- the first pair and those behind it
-pub pairs_more : (front one all two xs : List ℕ) → 0 < length xs → two ≡ two_digits (get_or xs 0 0) → one ≡ front ++ two
-    → all ≡ one ++ spaced (take (length xs - 1) (drop 1 xs)) → all ≡ front ++ pairs_of xs
-pairs_more front one all two [] h p q s = absurd (omega arith)
-pairs_more front one all two (x ∷ xs) h p q s =
-    s
-    ∙ ap (λ rest. one ++ spaced rest) (take_rest (x ∷ xs) 1)
-    ∙ ap (λ begun. begun ++ spaced xs) (q ∙ ap (λ digits. front ++ digits) p)
-    ∙ append_assoc front (two_digits x) (spaced xs)
+pub ruleset reading = (read_more, refuses_text, at_drop_all)

@@ -1,6 +1,5 @@
 pub mod Digits
 pub mod Positions
-pub mod Halves
 pub mod Reading
 pub mod Lines
 pub mod Texts

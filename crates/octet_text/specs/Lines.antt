@@ -1,6 +1,7 @@
 -- Lines of octets.
 use Rattle.std.specs.Prelude.{ℕ, List, [], ◌∷◌, ◌++◌}
-use Rattle.octet_text.specs.Digits.{two_digits}
+use Rattle.std.specs.List.{flat_map}
+use Rattle.frame.specs.Digits.{two_digits}
 use Rattle.octet_text.specs.Positions.{newline}
 
 -- the character between two pairs
@@ -9,8 +10,7 @@ space = 32
 
 -- the octets, each behind a space
 abbrev pub spaced : List ℕ → List ℕ
-spaced [] = []
-spaced (x ∷ xs) = space ∷ (two_digits x ++ spaced xs)
+spaced xs = flat_map (λ x. space ∷ two_digits x) xs
 
 -- the octets in pairs of digits, with one space between
 abbrev pub pairs_of : List ℕ → List ℕ

@@ -1,28 +1,42 @@
 // Hexadecimal digits.
-ghost use Rattle.std.specs.Prelude.{◌≡◌, ◌<◌, IfSome};
-ghost use Rattle.octet_text.specs.Digits.{digit_of, value_of};
+ghost use Rattle.std.specs.Prelude.{◌≡◌, ◌+◌, ◌*◌};
+ghost use Rattle.octet_text.specs.Digits.{value_of};
 
-// The capital digit of a value below 16.
-pub(crate) fn digit(value: u8) -> u8
-    requires { value < 16 }
-    ensures { result ≡ digit_of value }
-{
-    if value < 10 {
-        b'0' + value
-    } else {
-        b'A' + (value - 10)
-    }
+use frame::digits;
+use std::marker::Model;
+
+// The value of a digit.
+#[derive(Clone, Copy)]
+pub struct Digit {
+    value: u8,
 }
 
-// The value of a digit, a capital or a small letter, if it is one.
-pub(crate) fn digit_value(character: u8) -> Option<u8>
-    ensures value { result ≡ value_of character }
-    ensures small { IfSome result (λ v. v < 16) }
-{
-    match character {
-        b'0'..=b'9' => Some(character - b'0'),
-        b'A'..=b'F' => Some(character - b'A' + 10),
-        b'a'..=b'f' => Some(character - b'a' + 10),
-        _ => None,
+impl Model for Digit {
+    ghost use Rattle.std.specs.Prelude.{ℕ, ◌<◌};
+
+    ghost Value = { ℕ };
+
+    ghost view = { λ d. d.value };
+
+    ghost invariant = { λ d. d.value < 16 };
+
+    ghost inverse = { λ v. record { value = v } };
+}
+
+impl Digit {
+    // A capital or a small letter, or a decimal digit.
+    // Kept: a `TryFrom` would need an error type, and a character is no digit in one way only.
+    pub(crate) fn read(character: u8) -> Option<Digit>
+        ensures { result ≡ value_of character }
+    {
+        let value = digits::value(character.to_ascii_uppercase())?;
+        Some(Digit { value })
+    }
+
+    // The octet that this digit and the one behind it write.
+    pub(crate) fn octet(self, second: Digit) -> u8
+        ensures { result ≡ self * 16 + second }
+    {
+        self.value * 16 + second.value
     }
 }

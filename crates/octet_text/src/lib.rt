@@ -61,6 +61,21 @@ mod tests {
     }
 
     #[test]
+    fn faults_are_printed(rt: HostRuntime) -> Result<(), Fail> {
+        let fault = TextFault {
+            line: 2,
+            column: 5,
+            problem: TextProblem::HalfAPair,
+        };
+        let printed = format!(in rt.alloc(); "{fault}")?;
+        assert_eq!(rt;
+            printed.as_str(),
+            "line 2, column 5: the text ends inside a pair"
+        );
+        Ok(())
+    }
+
+    #[test]
     fn line_is_written(rt: HostRuntime) -> Result<(), Fail> {
         let heap = rt.alloc();
         assert!(rt; octet_line(heap, &[0x05, 0x0D, 0xAF])?.as_slice() == b"05 0D AF\n".as_slice());

@@ -1,24 +1,16 @@
 // Octets written for people.
 ghost use Rattle.std.specs.Prelude.{◌≡◌, [], ◌∷◌, ◌++◌, IfOk, OnOk};
 ghost use Rattle.octet_text.specs.Lines.{line_of, pairs_of, spaced};
-ghost use Rattle.octet_text.specs.Digits.{two_digits};
 ghost use Rattle.octet_text.specs.Promises.{LinesReadBack};
 
-use crate::digit::digit;
+use frame::digits::two_digits;
 use std::alloc::{AllocError, Global};
-
-// The two capital digits of an octet.
-fn pair(octet: u8) -> [u8; 2]
-    ensures { result ≡ two_digits octet }
-{
-    [digit(octet / 16), digit(octet % 16)]
-}
 
 // A space and the two digits of an octet.
 fn spaced_pair(octet: u8) -> [u8; 3]
     ensures { result ≡ spaced (octet ∷ []) }
 {
-    let [high, low] = pair(octet);
+    let [high, low] = two_digits(octet);
     [b' ', high, low]
 }
 
@@ -34,18 +26,17 @@ fn push_spaced(line: &mut Vec<u8>, octets: &[u8]) -> Result<(), AllocError>
 
 // Adds the octets, with one space between.
 fn push_pairs(line: &mut Vec<u8>, octets: &[u8]) -> Result<(), AllocError>
-    ensures pairs { OnOk result (line.new.items ≡ line.old.items ++ pairs_of octets.now) }
-    ensures lines_read_back { LinesReadBack }
+    ensures { OnOk result (line.new.items ≡ line.old.items ++ pairs_of octets.now) }
 {
     let [first, rest @ ..] = octets else {
         return Ok(());
     };
-    line.extend_from_slice(&pair(*first))?;
-    push_spaced(line, rest)?;
-    Ok(())
+    line.extend_from_slice(&two_digits(*first))?;
+    push_spaced(line, rest)
 }
 
 // The line of the octets: two capital digits each, one space between, and a newline.
+#[tactic(auto, using(crate::proofs::Grammar::lines_read_back))]
 pub fn octet_line(heap: Global, octets: &[u8]) -> Result<Vec<u8>, AllocError>
     ensures line { IfOk result (λ v. v.items ≡ line_of octets.now) }
     ensures lines_read_back { LinesReadBack }

@@ -1,7 +1,6 @@
 // A place in a text.
 ghost use Rattle.std.specs.Prelude.{◌≡◌};
 ghost use Rattle.octet_text.specs.Positions.{first_position, position_behind, fault_at};
-ghost use Rattle.octet_text.specs.Promises.{ReadsHexadecimalText, CommentLinesDoNotMatter, FaultsStandWhereTold};
 
 use crate::fault::{TextFault, TextProblem};
 
@@ -13,12 +12,8 @@ pub struct Position {
 }
 
 impl Position {
-    // Where each reading begins; so the promises about whole texts stand here, for the public functions to repeat.
     pub(crate) fn first() -> Position
-        ensures value { result ≡ first_position }
-        ensures reads_hexadecimal_text { ReadsHexadecimalText }
-        ensures comment_lines_do_not_matter { CommentLinesDoNotMatter }
-        ensures faults_stand_where_told { FaultsStandWhereTold }
+        ensures { result ≡ first_position }
     {
         Position { line: 1, column: 1 }
     }
@@ -34,8 +29,8 @@ impl Position {
             }
         } else {
             Position {
-                line: self.line,
                 column: self.column.saturating_add(1),
+                ..self
             }
         }
     }

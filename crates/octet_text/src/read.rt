@@ -5,11 +5,11 @@ ghost use Rattle.octet_text.specs.Reading.{start, reading_of, step, read_one, fi
 ghost use Rattle.octet_text.specs.Promises.{ReadsHexadecimalText, CommentLinesDoNotMatter, FaultsStandWhereTold};
 
 use crate::fault::{TextFault, TextProblem};
-use crate::hear::hear;
 use crate::position::Position;
 use crate::reader::{HexReader, State};
 
 impl HexReader {
+    #[tactic(auto, using(crate::proofs::Promises::whole_texts))]
     pub fn new() -> HexReader
         ensures begins { reading_of result ≡ start }
         ensures reads_hexadecimal_text { ReadsHexadecimalText }
@@ -28,9 +28,8 @@ impl HexReader {
         ensures value { result_map_both (step (reading_of self.new)) (λ f. f) result ≡ read_one (reading_of self.old) character }
         ensures unchanged { OnErr result (reading_of self.new ≡ reading_of self.old) }
     {
-        let Some(turn) = hear(self.state, character) else {
-            return Err(self.position.fault(TextProblem::NotADigit));
-        };
+        let refusal = self.position.fault(TextProblem::NotADigit);
+        let turn = self.state.hear(character).ok_or(refusal)?;
         self.state = turn.state;
         self.position = self.position.behind(character);
         Ok(turn.octet)

@@ -8,14 +8,18 @@ ghost use Rattle.octet_text.specs.Reading.{reading_of, progress, read_on, read_a
 use crate::fault::TextFault;
 use crate::reader::HexReader;
 use std::alloc::{AllocError, AllocFailed, Global};
+use thiserror::Error;
 
 // Why a text gives no octets: what is wrong with it, or want of memory.
-#[derive(Clone, Copy, PartialEq, Eq, Debug)]
+#[derive(Clone, Copy, PartialEq, Eq, Debug, Error)]
 pub enum ReadFault {
+    #[error(transparent)]
     Text(TextFault),
+    #[error("no memory")]
     Memory,
 }
 
+// Kept, this and the two below: tried `#[from]`; its `From` has no contract, and the exits of `?` in read_character and read_text do not close.
 impl From<TextFault> for ReadFault {
     ghost from_gives = { λ f r. r ≡ Text f };
 
@@ -55,6 +59,7 @@ fn read_character(
 }
 
 // Takes the characters one by one, up to the first that is refused.
+#[tactic(auto, using(crate::proofs::Steps::reading))]
 fn read_characters(
     reader: &mut HexReader,
     octets: &mut Vec<u8>,
@@ -69,6 +74,7 @@ fn read_characters(
 }
 
 // The octets of a text, or its first fault.
+#[tactic(auto, using(crate::proofs::Promises::whole_texts))]
 pub fn read_text(heap: Global, text: &[u8]) -> Result<Vec<u8>, ReadFault>
     ensures value { Answers result (λ v. v.items) (read_all text.now) }
     ensures reads_hexadecimal_text { ReadsHexadecimalText }
