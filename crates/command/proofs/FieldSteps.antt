@@ -1,15 +1,10 @@
 -- One turn of the loops over the octets of a field.
-use Rattle.std.proofs.Common.{◌≡◌, ℕ, ◌+◌, ◌*◌, ◌^◌, ◌<◌, ◌≤◌, Bool, ◌&&◌, List, length, get_or, drop, Some, Option, sym, ap, ◌∙◌, pow-suc, add-one, arith, lit<}
+use Rattle.std.proofs.Common.{◌≡◌, ℕ, ◌+◌, ◌*◌, ◌^◌, ◌<◌, ◌≤◌, List, length, get_or, drop, Some, Option, sym, ap, ◌∙◌, pow-suc, add-one, arith, lit<}
 use native.Mathlib.Nat.{pow-le-pow_right}
 use Rattle.std.proofs.lemmas.List.{at_drop_more}
 use Rattle.std.proofs.lemmas.Bool.Decides.{nat_tests}
 use Rattle.frame.specs.Digits.{value_of}
-use Rattle.command.specs.Table.{every}
 use Rattle.command.specs.Fields.{hex_number, with_digit}
-
--- a test of each element, at one more of them
-pub every_more : {X : Type 0} (test : X → Bool) (xs : List X) (i : ℕ) (d : X) (t : Bool) → i < length xs → test (get_or xs i d) ≡ t → every test (drop i xs) ≡ (t && every test (drop (i + 1) xs))
-every_more test xs i d t h e = at_drop_more (every test) xs i d h ∙ ap (λ b. b && every test (drop (i + 1) xs)) e
 
 pub digit_small : (b d : ℕ) → Some d ≡ value_of b → d < 16
 digit_small b d e = grind (arith, nat_tests)

@@ -1,15 +1,14 @@
 -- Each part of a bulk write lies where it should, by one test that is computed over the table.
 use Rattle.std.proofs.Common.{◌≡◌, ◌+◌, Bool, true, ◌&&◌, eqb, ltb, leb, List, [], ◌∷◌, refl}
-use Rattle.std.specs.List.{AllByRecursion}
+use Rattle.std.specs.List.{AllByRecursion, list_all}
 use Rattle.std.proofs.lemmas.Bool.{and_parts, leb-true, ltb-true, eqb-true}
 use Rattle.command.specs.declared.parts.Part.{Part}
 use Rattle.command.specs.declared.parts.Part.TheVariants.{Number, Contract, Blank}
-use Rattle.command.specs.Table.{every}
 use Rattle.command.specs.Parts.{listed, digit_count, LawfulPart}
 
-all_every : {X : Type 0} (test : X → Bool) (P : X → Type 0) → ((x : X) → test x ≡ true → P x) → (xs : List X) → every test xs ≡ true → AllByRecursion P xs
+all_every : {X : Type 0} (test : X → Bool) (P : X → Type 0) → ((x : X) → test x ≡ true → P x) → (xs : List X) → list_all test xs ≡ true → AllByRecursion P xs
 all_every test P tells [] t = tt
-all_every test P tells (x ∷ xs) t = let h = and_parts (test x) (every test xs) t in (tells x h.0, all_every test P tells xs h.1)
+all_every test P tells (x ∷ xs) t = let h = and_parts (test x) (list_all test xs) t in (tells x h.0, all_every test P tells xs h.1)
 
 abbrev lawful : Part → Bool
 lawful (Number s) = leb 8 s.position && (leb (s.position + s.width) 251 && (leb s.width 5 && (eqb (digit_count s.width) s.width && ltb s.cell 28)))

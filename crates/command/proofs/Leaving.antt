@@ -98,3 +98,7 @@ with_sizes (Err f) content h = (refl, refl)
 
 pub left_sizes : (a : Asked) (h : Holding) → ((left_of a h).station.events.capacity ≡ h.station.events.capacity) × ((left_of a h).station.half_hours.capacity ≡ h.station.half_hours.capacity)
 left_sizes a h = with_sizes (command_of a.command) a.content h
+
+pub sizes_kept : (v : StationView) (a : Asked) (h : Holding) → v ≡ (left_of a h).station
+    → (v.events.capacity ≡ h.station.events.capacity) × (v.half_hours.capacity ≡ h.station.half_hours.capacity)
+sizes_kept v a h e = (ap (λ w. w.events.capacity) e ∙ (left_sizes a h).0, ap (λ w. w.half_hours.capacity) e ∙ (left_sizes a h).1)

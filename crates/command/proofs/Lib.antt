@@ -2,7 +2,6 @@ pub mod Ranking
 pub mod Slotting
 pub mod Leaving
 pub mod Lawful
-pub mod Ratios
 pub mod FieldSteps
 pub mod PartSteps
 pub mod MergeSteps

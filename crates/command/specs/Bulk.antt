@@ -7,7 +7,8 @@ use Rattle.command.specs.declared.fault.Fault.TheVariants.{WrongLength, WrongOct
 use Rattle.command.specs.declared.parts.Part.{Part}
 use Rattle.command.specs.declared.parts.Part.TheVariants.{Number, Contract, Blank}
 use Rattle.command.specs.declared.setting.Setting.{Setting}
-use Rattle.command.specs.Table.{every, contract_octet}
+use Rattle.std.specs.List.{list_all}
+use Rattle.command.specs.Table.{contract_octet}
 use Rattle.command.specs.Questions.{then, number_at}
 use Rattle.command.specs.Parts.{parts}
 use Rattle.command.specs.Fields.{field_at, all_f, number_field, clock_view, clock_field}
@@ -38,7 +39,7 @@ tail_asked left high low =
 
 abbrev pub text_read : List ℕ → Bool → ℕ → ℕ → Cells → Result Cells Fault
 text_read text left high low cells =
-    cond (left || every contract_octet text)
+    cond (left || list_all contract_octet text)
     (then (tail_asked left high low) (λ _. Ok (cond left cells (with_text cells 4 text))))
     (Err (WrongOctets 28))
 

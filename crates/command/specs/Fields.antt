@@ -1,6 +1,6 @@
 -- The fields of a bulk write that are numbers, and the clock. A field that holds F everywhere leaves what it stands for as it is.
-use Rattle.std.specs.Prelude.{ℕ, ◌+◌, ◌-◌, ◌*◌, Bool, cond, List, [], ◌∷◌, Some, None, Ok, Err, Option, Result, nat_eq}
-use Rattle.std.specs.List.{between}
+use Rattle.std.specs.Prelude.{ℕ, ◌+◌, ◌-◌, ◌*◌, Bool, cond, List, [], ◌∷◌, Some, None, Ok, Err, Option, Result, ◌==◌}
+use Rattle.std.specs.List.{between, list_all}
 use Rattle.calendar.specs.declared.date_time.DateTime.{DateTime}
 use Rattle.calendar.specs.declared.time_fault.TimeFault.{TimeFault}
 use Rattle.calendar.specs.declared.time_fault.TimeFault.TheVariants.{NotDigits, NoSuchTime as no_such_time}
@@ -10,7 +10,7 @@ use Rattle.frame.specs.Digits.{value_of}
 use Rattle.command.specs.declared.fault.Fault.{Fault}
 use Rattle.command.specs.declared.fault.Fault.TheVariants.{WrongOctets, WrongValue, NoSuchTime}
 use Rattle.command.specs.declared.setting.Setting.{Setting}
-use Rattle.command.specs.Table.{every, allows}
+use Rattle.command.specs.Table.{allows}
 
 -- the octets of a field: the data begin at position 8
 abbrev pub field_at : ℕ → ℕ → List ℕ → List ℕ
@@ -18,7 +18,7 @@ field_at position width content = between (position - 8) (position - 8 + width) 
 
 -- whether a field holds F everywhere
 abbrev pub all_f : List ℕ → Bool
-all_f xs = every (λ b. nat_eq b 70) xs
+all_f xs = list_all (λ b. b == 70) xs
 
 abbrev pub with_digit : Option ℕ → (ℕ → Option ℕ) → Option ℕ
 with_digit (Some d) f = f d

@@ -1,16 +1,15 @@
 -- What reading half hours asks for and shows.
-use Rattle.std.specs.Prelude.{ℕ, Bool, cond, ◌&&◌, List, [], ◌∷◌, ◌++◌, length, replicate, Some, None, Ok, Err, Option, Result, ◌==◌, slice_index}
+use Rattle.std.specs.Prelude.{ℕ, Bool, cond, ◌&&◌, List, [], ◌∷◌, ◌++◌, length, Some, None, Ok, Err, Option, Result, ◌==◌, slice_index}
 use Rattle.std.specs.List.{range_with_len, flat_map}
-use Rattle.book.specs.Ranked.{RingView, ranked}
 use Rattle.calendar.specs.declared.time_fault.TimeFault.{TimeFault}
 use Rattle.calendar.specs.declared.time_fault.TimeFault.TheVariants.{NotDigits, NoSuchTime as no_such_time}
 use Rattle.calendar.specs.Moment.{Moment, moment_of, same_moment}
 use Rattle.calendar.specs.Digits.{read_of}
 use Rattle.calendar.specs.HalfHours.{half_hours_on}
-use Rattle.frame.specs.Digits.{four_digits}
 use Rattle.command.specs.declared.fault.Fault.{Fault}
 use Rattle.command.specs.declared.fault.Fault.TheVariants.{WrongLength, WrongOctets, WrongValue, NoSuchTime}
 use Rattle.command.specs.declared.half_hour.HalfHour.{HalfHour}
+use Rattle.command.specs.Points.{octets_of}
 use Rattle.command.specs.Questions.{then}
 
 -- the minutes and seconds of YYMMDDhhmmss are zero; '0' is 48
@@ -48,19 +47,14 @@ abbrev pub demand_of : Option Moment → List HalfHour → Option ℕ
 demand_of (Some m) rs = newest_demand m rs
 demand_of None rs = None
 
--- a demand is four digits; a missing one is four spaces
-abbrev pub demand_octets : Option ℕ → List ℕ
-demand_octets (Some d) = four_digits d
-demand_octets None = replicate 4 32
-
--- the n-th half hour from a moment on, of records oldest first
+-- the n-th half hour from a moment on, of records oldest first: its demand as a point
 abbrev pub half_hour_octets : Moment → List HalfHour → ℕ → List ℕ
-half_hour_octets start rs n = demand_octets (demand_of (half_hours_on n start) rs)
+half_hour_octets start rs n = octets_of (demand_of (half_hours_on n start) rs)
 
 -- the answer: the time as received, and 24 successive half hours from it on
 abbrev pub half_hours_shown : List ℕ → Moment → List HalfHour → List ℕ
 half_hours_shown xs start rs = xs ++ flat_map (half_hour_octets start rs) (range_with_len 0 24)
 
--- the half hours that the data ask for, of those that a share holds
-abbrev pub half_hours_reading : List ℕ → RingView → List HalfHour → Result (List ℕ) Fault
-half_hours_reading xs g places = then (half_hours_asked xs) (λ start. Ok (half_hours_shown xs start (ranked g places)))
+-- the half hours that the data ask for, of those that a share holds, oldest first
+abbrev pub half_hours_reading : List ℕ → List HalfHour → Result (List ℕ) Fault
+half_hours_reading xs held = then (half_hours_asked xs) (λ start. Ok (half_hours_shown xs start held))

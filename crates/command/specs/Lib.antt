@@ -3,12 +3,14 @@ pub mod Faults
 pub mod Commands
 pub mod Records
 pub mod Stations
+pub mod Held
 pub mod Table
 pub mod Decimals
 pub mod Questions
 pub mod Windows
 pub mod History
 pub mod Resets
+pub mod Points
 pub mod Readings
 pub mod Gathered
 pub mod Replies

@@ -1,15 +1,14 @@
 -- What the reading commands ask for and what a page shows.
-use Rattle.std.specs.Prelude.{ℕ, ◌+◌, ◌-◌, Bool, cond, ◌||◌, List, [], ◌∷◌, ◌++◌, map, length, Ok, Err, Result, ◌==◌, nat_lt, slice_index}
+use Rattle.std.specs.Prelude.{ℕ, ◌+◌, ◌-◌, Bool, cond, ◌||◌, List, [], ◌∷◌, ◌++◌, map, length, Ok, Err, Result, ◌==◌, nat_lt, Some, None, slice_index}
 use Rattle.std.specs.List.{between}
-use Rattle.frame.specs.Digits.{four_digits}
+use Rattle.book.specs.Ranked.{ranked}
 use Rattle.command.specs.declared.fault.Fault.{Fault}
 use Rattle.command.specs.declared.fault.Fault.TheVariants.{WrongPoints, NotYetBuilt}
 use Rattle.command.specs.declared.known.Command.{Command}
 use Rattle.command.specs.declared.known.Command.TheVariants.{ReadLimits, ReadTimers, ReadPresent, ReadEvents, ReadContract, Reset, ReadHalfHours, WriteSettings}
-use Rattle.command.specs.declared.point.Point.{Point}
-use Rattle.command.specs.declared.point.Point.TheVariants.{Number, Blank}
 use Rattle.command.specs.declared.points.Chosen.{Chosen}
 use Rattle.command.specs.Table.{contract_octet}
+use Rattle.command.specs.Points.{Point, octets_of}
 use Rattle.command.specs.Questions.{then, start_count_of}
 use Rattle.command.specs.Resets.{reset_of}
 use Rattle.command.specs.Stations.{Holding}
@@ -25,11 +24,6 @@ picked start count listed =
 -- the points that the data of a reading ask for
 abbrev pub chosen_of : List ℕ → ℕ → Result Chosen Fault
 chosen_of xs listed = then (start_count_of xs) (λ x. picked x.start x.count listed)
-
--- a point of a reading: a number in four digits, or four spaces
-abbrev pub octets_of : Point → List ℕ
-octets_of (Number n) = four_digits n
-octets_of Blank = 32 ∷ 32 ∷ 32 ∷ 32 ∷ []
 
 abbrev pub all_octets : List Point → List ℕ
 all_octets [] = []
@@ -51,14 +45,14 @@ mask page = cond (two_stages page) (slice_index page 21) (slice_index page 25)
 -- 0C: CT ratio, caution, limit, mask, meter day, 0, sync type, maximum reset
 abbrev pub limits : List ℕ → List Point
 limits page =
-    Number (slice_index page 14) ∷ Number (caution page) ∷ Number (limit page) ∷ Number (mask page)
-    ∷ Number (slice_index page 17) ∷ Number 0 ∷ Number (slice_index page 1) ∷ Number (slice_index page 3) ∷ []
+    Some (slice_index page 14) ∷ Some (caution page) ∷ Some (limit page) ∷ Some (mask page)
+    ∷ Some (slice_index page 17) ∷ Some 0 ∷ Some (slice_index page 1) ∷ Some (slice_index page 3) ∷ []
 
 -- 0F: ON hold, OFF hold, no-pulse wait, combined ratio, and six points of spaces
 abbrev pub timers : List ℕ → List Point
 timers page =
-    Number (slice_index page 26) ∷ Number (slice_index page 27) ∷ Number (slice_index page 18) ∷ Number (slice_index page 15)
-    ∷ Blank ∷ Blank ∷ Blank ∷ Blank ∷ Blank ∷ Blank ∷ []
+    Some (slice_index page 26) ∷ Some (slice_index page 27) ∷ Some (slice_index page 18) ∷ Some (slice_index page 15)
+    ∷ None ∷ None ∷ None ∷ None ∷ None ∷ None ∷ []
 
 -- a character of the contract number as it is sent: another one is sent as a space
 abbrev pub sent_octet : ℕ → ℕ
@@ -85,15 +79,15 @@ not_yet_built = Err NotYetBuilt
 
 -- 16: demand, predicted power, and the limit of 0C
 abbrev pub present : ℕ → ℕ → List ℕ → List Point
-present demand predicted page = Number demand ∷ Number predicted ∷ Number (limit page) ∷ []
+present demand predicted page = Some demand ∷ Some predicted ∷ Some (limit page) ∷ []
 
 -- the data of the answer to a command with its data, by what the station holds
 abbrev pub content_for : Command → List ℕ → Holding → Result (List ℕ) Fault
 content_for ReadLimits content h = reading content (limits h.page)
 content_for ReadTimers content h = reading content (timers h.page)
 content_for ReadPresent content h = reading content (present h.station.demand h.station.predicted h.page)
-content_for ReadEvents content h = history_reading content h.station.events h.events
+content_for ReadEvents content h = history_reading content (ranked h.station.events h.events)
 content_for ReadContract content h = contract_reading content h.page
 content_for Reset content h = then (reset_of content) (λ r. Ok [])
-content_for ReadHalfHours content h = half_hours_reading content h.station.half_hours h.half_hours
+content_for ReadHalfHours content h = half_hours_reading content (ranked h.station.half_hours h.half_hours)
 content_for WriteSettings content h = not_yet_built

@@ -5,7 +5,8 @@ use Rattle.calendar.specs.Moment.{Moment, moment_of}
 use Rattle.calendar.specs.HalfHours.{half_hours_on}
 use Rattle.command.specs.declared.half_hour.HalfHour.{HalfHour}
 use Rattle.command.specs.declared.half_hours.Slot.{Slot}
-use Rattle.command.specs.HalfHours.{demand_with, demand_octets}
+use Rattle.command.specs.HalfHours.{demand_with}
+use Rattle.command.specs.Points.{octets_of}
 
 -- a slot as plain values: when its half hour begins, and the demand known so far
 pub record SlotView : Type 0 where
@@ -27,14 +28,10 @@ slot_demand None d r = d
 abbrev pub noted : HalfHour → Slot → Slot
 noted r s = record { start = s.start; demand = slot_demand (option_map moment_of s.start) s.demand r }
 
-abbrev pub noted_if : Option HalfHour → List Slot → List Slot
-noted_if (Some r) ss = map (noted r) ss
-noted_if None ss = ss
-
 -- slots after records, one after another
 abbrev pub slots_after : List Slot → List HalfHour → List Slot
 slots_after ss [] = ss
 slots_after ss (r ∷ rs) = slots_after (map (noted r) ss) rs
 
 abbrev pub slot_octets : Slot → List ℕ
-slot_octets s = demand_octets s.demand
+slot_octets s = octets_of s.demand

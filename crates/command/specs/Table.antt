@@ -1,7 +1,7 @@
 -- The settings table: one row for each field of a bulk write that is a setting.
-use Rattle.std.specs.Prelude.{ℕ, ◌+◌, ◌≤◌, Bool, true, false, cond, ◌&&◌, ◌||◌, List, [], ◌∷◌, ◌++◌, map, replicate, ◌==◌, nat_eq, nat_le, nat_lt, slice_index}
+use Rattle.std.specs.Prelude.{ℕ, ◌+◌, ◌≤◌, Bool, cond, ◌&&◌, ◌||◌, List, [], ◌∷◌, ◌++◌, map, replicate, ◌==◌, nat_eq, nat_le, nat_lt, slice_index}
 use Rattle.std.proofs.Math.Seq.{paste}
-use Rattle.std.specs.List.{range_with_len}
+use Rattle.std.specs.List.{range_with_len, list_all, list_any}
 use Rattle.command.specs.declared.setting.Setting.{Setting}
 use Rattle.command.specs.declared.setting.Allowed.{Allowed}
 use Rattle.command.specs.declared.setting.Allowed.TheVariants.{Span, CtRatio, ContractText}
@@ -74,23 +74,18 @@ abbrev pub covering : ℕ → List Field → ℕ
 covering p [] = 0
 covering p (f ∷ fs) = cond (nat_le f.position p && nat_lt p (f.position + f.width)) 1 0 + covering p fs
 
-abbrev pub every : {X : Type 0} → (X → Bool) → List X → Bool
-every test [] = true
-every test (x ∷ xs) = test x && every test xs
-
 -- positions 8 to 250 are each in one field, and no field has others
 abbrev pub covered_once : List Setting → Bool
 covered_once rs =
-    every (λ p. nat_eq (covering p (fields_of rs)) 1) (range_with_len 8 243)
-    && every (λ f. nat_le 8 f.position && nat_le (f.position + f.width) 251) (fields_of rs)
+    list_all (λ p. nat_eq (covering p (fields_of rs)) 1) (range_with_len 8 243)
+    && list_all (λ f. nat_le 8 f.position && nat_le (f.position + f.width) 251) (fields_of rs)
 
 -- the ratios of current transformers that are made
 abbrev pub ct_ratios : List ℕ
 ct_ratios = 1 ∷ 2 ∷ 3 ∷ 4 ∷ 5 ∷ 6 ∷ 8 ∷ 10 ∷ 12 ∷ 15 ∷ 16 ∷ 20 ∷ 24 ∷ 30 ∷ 40 ∷ 50 ∷ 60 ∷ 80 ∷ 100 ∷ 120 ∷ []
 
 abbrev pub among : ℕ → List ℕ → Bool
-among n [] = false
-among n (x ∷ xs) = n == x || among n xs
+among n xs = list_any (λ x. x == n) xs
 
 -- a character of a contract number: a capital, a digit, a space or a hyphen
 abbrev pub contract_octet : ℕ → Bool
@@ -102,7 +97,7 @@ allows CtRatio n = among n ct_ratios
 allows ContractText n = contract_octet n
 
 abbrev pub initials_allowed : List Setting → Bool
-initials_allowed rs = every (λ r. allows r.allowed r.initial) rs
+initials_allowed rs = list_all (λ r. allows r.allowed r.initial) rs
 
 -- a page with what a setting is at first in its cells; `paste xs a ys n` is xs with the n elements of ys from place a on
 abbrev pub with_initial : List ℕ → Setting → List ℕ

@@ -1,5 +1,5 @@
 // A bulk write put over a page, in hand and in a memory.
-ghost use Rattle.std.specs.Prelude.{◌≡◌, ◌<◌, [], set, slice_index_or, slice_set};
+ghost use Rattle.std.specs.Prelude.{◌≡◌, ◌<◌, [], slice_index_or, slice_set};
 ghost use Rattle.command.specs.Merged.{with_cell, stored_cell, merged_cells};
 
 use crate::bulk_write::BulkWrite;
@@ -15,22 +15,17 @@ fn put_cell(page: &mut Page, cell: usize, value: Option<u16>)
     }
 }
 
-fn merged_cells(cells: &[Option<u16>; CELLS], page: &Page) -> Page
-    ensures { result ≡ merged_cells cells.now page.now }
-{
-    let mut merged = *page;
-    for (cell, value) in cells.iter().enumerate() {
-        put_cell(&mut merged, cell, *value);
-    }
-    merged
-}
-
 impl BulkWrite {
     // Each cell as it is set, else as the page has it.
+    #[tactic(auto, using(crate::proofs::MergeSteps::merged_all))]
     pub(crate) fn merged(&self, page: &Page) -> Page
         ensures { result ≡ merged_cells self.now.cells page.now }
     {
-        merged_cells(&self.cells, page)
+        let mut merged = *page;
+        for (cell, value) in self.cells.iter().enumerate() {
+            put_cell(&mut merged, cell, *value);
+        }
+        merged
     }
 }
 
@@ -43,6 +38,7 @@ fn store_cell<M: SettingsMemory>(memory: &mut M, page: u16, cell: u8, value: Opt
 }
 
 // Stores the cells that are set, and no other.
+// Kept: the cell's number is counted by `enumerate` and made an octet, as a memory takes it.
 pub(crate) fn store_cells<M: SettingsMemory>(
     cells: &[Option<u16>; CELLS],
     memory: &mut M,

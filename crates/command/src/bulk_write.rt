@@ -1,11 +1,11 @@
 // The data of a bulk write: what it sets.
-ghost use Rattle.std.specs.Prelude.{◌≡◌, length};
+ghost use Rattle.std.specs.Prelude.{◌≡◌};
 ghost use Rattle.std.specs.Result.{result_map_both};
 ghost use Rattle.command.specs.Parts.{parts as listed_parts, LawfulNumber, LawfulPart};
 ghost use Rattle.command.specs.Bulk.{cell_read, part_read, parts_read, all_left, bulk_view, bulk_of};
 
 use crate::bulk_contract::read_contract;
-use crate::bulk_field::{DATA_POSITION, all_f, read_clock, read_number};
+use crate::bulk_field::{LENGTH, all_f, field_at, read_clock, read_number};
 use crate::fault::Fault;
 use crate::parts::{Part, parts};
 use crate::setting::Setting;
@@ -20,40 +20,39 @@ pub(crate) struct BulkWrite {
     pub(crate) cells: [Option<u16>; CELLS],
 }
 
-// How many octets the data have, positions 8 to 250, and how many of them are the clock's.
-const LENGTH: usize = 243;
-
+// How many octets of the data are the clock's.
 const CLOCK_WIDTH: usize = 12;
 
 // Sets the cell of a number, unless its field holds F everywhere.
 fn read_cell(
-    content: &[u8],
+    content: &[u8; LENGTH],
     setting: Setting,
     cells: &mut [Option<u16>; CELLS],
 ) -> Result<(), Fault>
-    requires long { length content.now ≡ 243 }
-    requires lawful { LawfulNumber setting }
+    requires { LawfulNumber setting }
     ensures { result_map_both (λ _. cells.new) (λ e. e) result ≡ cell_read content.now setting cells.old }
 {
-    let value = read_number(content, setting)?;
-    if value.is_some() {
-        cells[setting.cell] = value;
+    if let Some(number) = read_number(content, setting)? {
+        cells[setting.cell] = Some(number);
     }
     Ok(())
 }
 
 // Asks one part, and sets its cells.
-fn read_part(content: &[u8], part: Part, cells: &mut [Option<u16>; CELLS]) -> Result<(), Fault>
-    requires long { length content.now ≡ 243 }
-    requires lawful { LawfulPart part }
+// Kept: data and cells go side by side, since a struct of both would owe in each method that the data stay.
+fn read_part(
+    content: &[u8; LENGTH],
+    part: Part,
+    cells: &mut [Option<u16>; CELLS],
+) -> Result<(), Fault>
+    requires { LawfulPart part }
     ensures { result_map_both (λ _. cells.new) (λ e. e) result ≡ part_read content.now part cells.old }
 {
     match part {
         Part::Number(setting) => read_cell(content, setting, cells),
         Part::Contract => read_contract(content, cells),
         Part::Blank { position, width } => {
-            let start = position - DATA_POSITION;
-            if all_f(&content[start..start + width]) {
+            if all_f(field_at(content, position, width)) {
                 Ok(())
             } else {
                 Err(Fault::WrongOctets {
@@ -65,8 +64,7 @@ fn read_part(content: &[u8], part: Part, cells: &mut [Option<u16>; CELLS]) -> Re
 }
 
 // What all parts set, or the first fault.
-fn read_parts(content: &[u8]) -> Result<[Option<u16>; CELLS], Fault>
-    requires { length content.now ≡ 243 }
+fn read_parts(content: &[u8; LENGTH]) -> Result<[Option<u16>; CELLS], Fault>
     ensures { result ≡ parts_read content.now all_left listed_parts }
 {
     let mut cells = [None; CELLS];
@@ -81,9 +79,7 @@ fn read_parts(content: &[u8]) -> Result<[Option<u16>; CELLS], Fault>
 pub(crate) fn read_bulk(content: &[u8]) -> Result<BulkWrite, Fault>
     ensures { result_map_both bulk_view (λ e. e) result ≡ bulk_of content.now }
 {
-    if content.len() != LENGTH {
-        return Err(Fault::WrongLength);
-    }
+    let content = <&[u8; LENGTH]>::try_from(content).map_err(|_| Fault::WrongLength)?;
     let clock = read_clock(&content[0..CLOCK_WIDTH])?;
     let cells = read_parts(content)?;
     Ok(BulkWrite { clock, cells })

@@ -25,6 +25,7 @@ pub enum Fault {
 
 impl Fault {
     // The number under which the fault is told; what is not yet built has none.
+    // Kept, this and the position: variants with a field have no discriminants to read, and 0 itself is what is told.
     pub fn number(self) -> u8
         ensures { result ≡ number_of self }
     {

@@ -14,10 +14,7 @@ const COUNT_POSITION: u8 = 10;
 pub(crate) fn number_at(position: u8, high: u8, low: u8) -> Result<u8, Fault>
     ensures { result ≡ number_at position high low }
 {
-    match digits::octet(high, low) {
-        Some(number) => Ok(number),
-        None => Err(Fault::WrongOctets { position }),
-    }
+    digits::octet(high, low).ok_or(Fault::WrongOctets { position })
 }
 
 // A start point and a count.
@@ -32,10 +29,10 @@ pub(crate) fn read_start_count(content: &[u8]) -> Result<StartCount, Fault>
     ensures same { result ≡ start_count_of content.now }
     ensures long { OnOk result (length content.now ≡ 4) }
 {
-    let [a, b, c, d] = content else {
+    let [start_high, start_low, count_high, count_low] = content else {
         return Err(Fault::WrongLength);
     };
-    let start = number_at(START_POSITION, *a, *b)?;
-    let count = number_at(COUNT_POSITION, *c, *d)?;
+    let start = number_at(START_POSITION, *start_high, *start_low)?;
+    let count = number_at(COUNT_POSITION, *count_high, *count_low)?;
     Ok(StartCount { start, count })
 }

@@ -1,5 +1,5 @@
 // The commands that a station knows.
-ghost use Rattle.std.specs.Prelude.{◌≡◌, List, [], ◌∷◌};
+ghost use Rattle.std.specs.Prelude.{◌≡◌};
 ghost use Rattle.command.specs.Commands.{command_of, answer_code};
 
 use crate::fault::Fault;
@@ -24,11 +24,13 @@ pub enum Command {
     WriteSettings,
 }
 
-impl Command {
-    // The command that two octets of a frame name.
-    pub fn read(octets: [u8; 2]) -> Result<Command, Fault>
-        ensures { result ≡ command_of octets }
-    {
+// The command that two octets of a frame name.
+impl TryFrom<[u8; 2]> for Command {
+    type Error = Fault;
+
+    ghost try_from_gives = { λ octets r. r ≡ command_of octets };
+
+    fn try_from(octets: [u8; 2]) -> Result<Command, Fault> {
         match octets {
             [b'0', b'C'] => Ok(Command::ReadLimits),
             [b'0', b'F'] => Ok(Command::ReadTimers),
@@ -41,7 +43,9 @@ impl Command {
             _ => Err(Fault::UnknownCommand),
         }
     }
+}
 
+impl Command {
     // The octets of the answer's command: the request's with the first digit raised by 8.
     pub fn answer_code(self) -> [u8; 2]
         ensures { result ≡ answer_code self }

@@ -11,6 +11,7 @@ use crate::settings::{
 };
 
 // A part of a bulk write. Positions count from 1 at ENQ.
+// Kept: that a part is lawful is asked where it is used, since an enum has no ghost field.
 #[derive(Clone, Copy)]
 pub(crate) enum Part {
     // a setting that is one number

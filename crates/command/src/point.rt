@@ -1,24 +1,15 @@
-// A point of a reading: what four octets of an answer show.
-ghost use Rattle.std.specs.Prelude.{◌≡◌, List, [], ◌∷◌};
-ghost use Rattle.command.specs.Readings.{octets_of};
+// A point of an answer: what four octets show.
+ghost use Rattle.std.specs.Prelude.{◌≡◌};
+ghost use Rattle.command.specs.Points.{octets_of};
 
 use frame::digits::four_digits;
 
-#[derive(Clone, Copy)]
-pub(crate) enum Point {
-    // a number in four digits
-    Number(u16),
-    // four spaces, where the monitor has nothing to show
-    Blank,
-}
+// A number, or none where the monitor has nothing to show.
+pub(crate) type Point = Option<u16>;
 
-impl Point {
-    pub(crate) fn octets(self) -> [u8; 4]
-        ensures { result ≡ octets_of self }
-    {
-        match self {
-            Point::Number(number) => four_digits(number),
-            Point::Blank => *b"    ",
-        }
-    }
+// Four digits, or four spaces.
+pub(crate) fn point_octets(point: Point) -> [u8; 4]
+    ensures { result ≡ octets_of point }
+{
+    point.map_or([b' '; 4], four_digits)
 }

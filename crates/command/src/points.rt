@@ -1,5 +1,5 @@
 // The points that a reading asks for, and those that a page shows.
-ghost use Rattle.std.specs.Prelude.{◌≡◌, ℕ, ◌+◌, ◌-◌, ◌≤◌, List, [], ◌∷◌, length, IfOk};
+ghost use Rattle.std.specs.Prelude.{◌≡◌, ◌+◌, ◌≤◌, IfOk};
 ghost use Rattle.command.specs.Readings.{chosen_of, picked, limit, limits, timers, present};
 
 use crate::fault::Fault;
@@ -12,6 +12,7 @@ use crate::settings::{
 use crate::station::Station;
 
 // Which points of a list are asked for: so many, from the first on, counted from 0.
+// Kept: a `Range` has an end, and what is asked for has a count.
 #[derive(Clone, Copy)]
 pub(crate) struct Chosen {
     pub(crate) first: usize,
@@ -42,6 +43,7 @@ pub(crate) fn read_points(content: &[u8], listed: usize) -> Result<Chosen, Fault
 }
 
 // The limit that the demand mode chooses: that of two stages or that of three.
+// Kept: no enum of demand modes, since a page may hold any number, and any but 1 chooses three stages.
 fn limit_of(page: &Page) -> u16
     ensures { result ≡ limit page.now }
 {
@@ -68,14 +70,14 @@ pub(crate) fn limits_of(page: &Page) -> [Point; 8]
         page[MASK_3.cell]
     };
     [
-        Point::Number(page[CT_RATIO.cell]),
-        Point::Number(caution),
-        Point::Number(limit_of(page)),
-        Point::Number(mask),
-        Point::Number(page[METER_DAY.cell]),
-        Point::Number(0),
-        Point::Number(page[SYNC_TYPE.cell]),
-        Point::Number(page[MAXIMUM_RESET.cell]),
+        Some(page[CT_RATIO.cell]),
+        Some(caution),
+        Some(limit_of(page)),
+        Some(mask),
+        Some(page[METER_DAY.cell]),
+        Some(0),
+        Some(page[SYNC_TYPE.cell]),
+        Some(page[MAXIMUM_RESET.cell]),
     ]
 }
 
@@ -84,16 +86,16 @@ pub(crate) fn timers_of(page: &Page) -> [Point; 10]
     ensures { result ≡ timers page.now }
 {
     [
-        Point::Number(page[ON_HOLD.cell]),
-        Point::Number(page[OFF_HOLD.cell]),
-        Point::Number(page[NO_PULSE_WAIT.cell]),
-        Point::Number(page[COMBINED_RATIO.cell]),
-        Point::Blank,
-        Point::Blank,
-        Point::Blank,
-        Point::Blank,
-        Point::Blank,
-        Point::Blank,
+        Some(page[ON_HOLD.cell]),
+        Some(page[OFF_HOLD.cell]),
+        Some(page[NO_PULSE_WAIT.cell]),
+        Some(page[COMBINED_RATIO.cell]),
+        None,
+        None,
+        None,
+        None,
+        None,
+        None,
     ]
 }
 
@@ -102,8 +104,8 @@ pub(crate) fn present_of(station: &Station, page: &Page) -> [Point; 3]
     ensures { result ≡ present station.now.demand station.now.predicted page.now }
 {
     [
-        Point::Number(station.demand),
-        Point::Number(station.predicted),
-        Point::Number(limit_of(page)),
+        Some(station.demand),
+        Some(station.predicted),
+        Some(limit_of(page)),
     ]
 }

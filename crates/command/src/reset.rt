@@ -1,7 +1,7 @@
 // Command 54: settings, events or half hours made as at first.
-ghost use Rattle.std.specs.Prelude.{◌≡◌, length};
+ghost use Rattle.std.specs.Prelude.{◌≡◌};
 ghost use Rattle.command.specs.Stations.{station_view};
-ghost use Rattle.command.specs.Resets.{effects_of, pointed, reset_of, station_after, pages_after};
+ghost use Rattle.command.specs.Resets.{effects_of, reset_of, station_after, pages_after};
 
 use crate::fault::Fault;
 use crate::field::number_at;
@@ -26,11 +26,11 @@ pub(crate) struct Reset {
 }
 
 // The first of the four digits is the sum of 8 (settings), 2 (events) and 1 (half hours); the others are 0.
-fn effects_of(high: u8, low: u8) -> Result<Reset, Fault>
-    ensures { result ≡ effects_of high low }
+fn effects_of(first: u8, last: u8) -> Result<Reset, Fault>
+    ensures { result ≡ effects_of first last }
 {
-    let digit = high / 16;
-    if low != 0 || high % 16 != 0 || digit % 8 > 3 {
+    let digit = first / 16;
+    if last != 0 || first % 16 != 0 || digit % 8 > 3 {
         return Err(Fault::WrongValue {
             position: DIGITS_POSITION,
         });
@@ -42,28 +42,29 @@ fn effects_of(high: u8, low: u8) -> Result<Reset, Fault>
     })
 }
 
-// The point is asked last, though it stands first.
-fn pointed(point: u8, reset: Reset) -> Result<Reset, Fault>
-    ensures { result ≡ pointed point reset }
+// What the data ask to reset: a point and four digits. The point is asked last, though it stands first.
+pub(crate) fn read_reset(content: &[u8]) -> Result<Reset, Fault>
+    ensures { result ≡ reset_of content.now }
 {
+    let [
+        point_high,
+        point_low,
+        first_high,
+        first_low,
+        last_high,
+        last_low,
+    ] = content
+    else {
+        return Err(Fault::WrongLength);
+    };
+    let point = number_at(POINT_POSITION, *point_high, *point_low)?;
+    let first = number_at(DIGITS_POSITION, *first_high, *first_low)?;
+    let last = number_at(DIGITS_POSITION, *last_high, *last_low)?;
+    let reset = effects_of(first, last)?;
     if point != POINT {
         return Err(Fault::WrongPoints);
     }
     Ok(reset)
-}
-
-// What the data ask to reset: a point and four digits.
-pub(crate) fn read_reset(content: &[u8]) -> Result<Reset, Fault>
-    ensures { result ≡ reset_of content.now }
-{
-    let [a, b, c, d, e, f] = content else {
-        return Err(Fault::WrongLength);
-    };
-    let point = number_at(POINT_POSITION, *a, *b)?;
-    let high = number_at(DIGITS_POSITION, *c, *d)?;
-    let low = number_at(DIGITS_POSITION, *e, *f)?;
-    let reset = effects_of(high, low)?;
-    pointed(point, reset)
 }
 
 impl Reset {

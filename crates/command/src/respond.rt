@@ -1,10 +1,11 @@
 // A station's answer to a request, written to the front of a lent buffer.
-ghost use Rattle.std.specs.Prelude.{◌≡◌, ℕ, ◌+◌, ◌<◌, ◌≤◌, true, ◌&&◌, List, [], ◌∷◌, length, is_ok, Ok, ◌==◌, nat_eq, nat_le};
+ghost use Rattle.std.specs.Prelude.{◌≡◌, ◌<◌, ◌≤◌, true, ◌&&◌, [], length, is_ok, Ok, slice_set, ◌==◌, nat_eq, nat_le};
 ghost use Rattle.frame.specs.Answers.{counted, fronted};
 ghost use Rattle.frame.specs.Requests.{asking};
 ghost use Rattle.memory.specs.Model.{loaded};
-ghost use Rattle.command.specs.Replies.{composed_of, saying, replied_as, replied, left_by, left_of, pages_by, pages_of, said, told_with, told, shares_fit, held_by, responded, written, answer_left, station_left, pages_left};
+ghost use Rattle.command.specs.Replies.{composed_of, saying, replied_as, replied, left_of, pages_of, said, told_with, told, shares_fit, held_by, responded, answer_left, station_left, pages_left};
 ghost use Rattle.command.specs.Commands.{answer_code};
+ghost use Rattle.command.specs.Held.{values_of};
 ghost use Rattle.command.specs.Questions.{then};
 ghost use Rattle.command.specs.Resets.{reset_of, station_reset, pages_reset};
 ghost use Rattle.command.specs.Stations.{station_view, holding};
@@ -14,15 +15,17 @@ use crate::content::Content;
 use crate::event::Event;
 use crate::fault::Fault;
 use crate::half_hour::HalfHour;
+use crate::holding::Holding;
 use crate::known::Command;
 use crate::reset::read_reset;
 use crate::settings::Page;
 use crate::station::Station;
-use frame::answer::write_answer;
+use frame::answer::Answer;
 use frame::request::Request;
 use memory::{SettingsMemory, load};
 
 // What was answered: the answer's length, and the fault of an abnormal answer.
+// Kept: a length, and no slice, since this is told on after the loan of the buffer.
 #[derive(Clone, Copy)]
 pub struct Reply {
     pub length: usize,
@@ -65,60 +68,20 @@ fn obey_reset<M: SettingsMemory>(
 }
 
 // Carries out a command other than a reset: it leaves all as it is.
-fn obey_reading(
-    command: Command,
-    content: &[u8],
-    station: &Station,
-    page: &Page,
-    events: &[Event],
-    half_hours: &[HalfHour],
-) -> Result<Composed, Fault>
-    requires events { length events.now ≡ (station_view station.now).events.capacity }
-    requires half_hours { length half_hours.now ≡ (station_view station.now).half_hours.capacity }
-    ensures { composed_of result ≡ replied_as command content.now (holding (station_view station.now) page.now events.now half_hours.now) }
+fn obey_reading(command: Command, content: &[u8], holding: &Holding<'_>) -> Result<Composed, Fault>
+    ensures { composed_of result ≡ replied_as command content.now (values_of holding.now) }
 {
-    let content = content_for(command, content, station, page, events, half_hours)?;
+    let content = content_for(command, content, holding)?;
     Ok(Composed {
         code: command.answer_code(),
         content,
     })
 }
 
-// Carries out a command, and composes its normal answer, or tells the fault of the abnormal one.
+// Carries out the command of a request, if it is known, and composes its normal answer, or tells the fault of the
+// abnormal one.
+// Kept: what a station answers by is lent part by part, as to `respond`, since each part is left changed by itself.
 fn obey<M: SettingsMemory>(
-    command: Command,
-    content: &[u8],
-    station: &mut Station,
-    memory: &mut M,
-    page: u16,
-    cells: &Page,
-    events: &[Event],
-    half_hours: &[HalfHour],
-) -> Result<Composed, Fault>
-    requires events { length events.now ≡ (station_view station.old).events.capacity }
-    requires half_hours { length half_hours.now ≡ (station_view station.old).half_hours.capacity }
-    ensures said { composed_of result ≡ replied_as command content.now (holding (station_view station.old) cells.now events.now half_hours.now) }
-    ensures station { station_view station.new ≡ (left_by command content.now (holding (station_view station.old) cells.now events.now half_hours.now)).station }
-    ensures pages { M.pages memory.new ≡ pages_by command content.now (M.pages memory.old) page }
-{
-    match command {
-        Command::Reset => obey_reset(content, station, memory, page),
-        Command::ReadLimits => obey_reading(command, content, station, cells, events, half_hours),
-        Command::ReadTimers => obey_reading(command, content, station, cells, events, half_hours),
-        Command::ReadPresent => obey_reading(command, content, station, cells, events, half_hours),
-        Command::ReadEvents => obey_reading(command, content, station, cells, events, half_hours),
-        Command::ReadContract => obey_reading(command, content, station, cells, events, half_hours),
-        Command::ReadHalfHours => obey_reading(
-            command, content, station, cells, events, half_hours,
-        ),
-        Command::WriteSettings => obey_reading(
-            command, content, station, cells, events, half_hours,
-        ),
-    }
-}
-
-// Carries out the command of a request, if it is known.
-fn compose<M: SettingsMemory>(
     request: &Request<'_>,
     station: &mut Station,
     memory: &mut M,
@@ -133,17 +96,47 @@ fn compose<M: SettingsMemory>(
     ensures station { station_view station.new ≡ (left_of (asking request.now) (holding (station_view station.old) cells.now events.now half_hours.now)).station }
     ensures pages { M.pages memory.new ≡ pages_of (asking request.now) (M.pages memory.old) page }
 {
-    let command = Command::read(request.command)?;
-    obey(
-        command,
-        request.content,
-        station,
-        memory,
-        page,
-        cells,
-        events,
-        half_hours,
-    )
+    let command = Command::try_from(request.command)?;
+    match command {
+        Command::Reset => obey_reset(request.content, station, memory, page),
+        Command::ReadLimits
+        | Command::ReadTimers
+        | Command::ReadPresent
+        | Command::ReadEvents
+        | Command::ReadContract
+        | Command::ReadHalfHours
+        | Command::WriteSettings => obey_reading(
+            command,
+            request.content,
+            &Holding {
+                station,
+                page: cells,
+                events,
+                half_hours,
+            },
+        ),
+    }
+}
+
+// The same on a page as it was loaded: what is left is told of that page, and rings keep their sizes.
+fn compose<M: SettingsMemory>(
+    request: &Request<'_>,
+    station: &mut Station,
+    memory: &mut M,
+    page: u16,
+    cells: &Page,
+    events: &[Event],
+    half_hours: &[HalfHour],
+) -> Result<Composed, Fault>
+    requires page { Ok cells.now ≡ loaded (M.pages memory.old) page }
+    requires events { length events.now ≡ (station_view station.old).events.capacity }
+    requires half_hours { length half_hours.now ≡ (station_view station.old).half_hours.capacity }
+    ensures said { composed_of result ≡ replied (asking request.now) (holding (station_view station.old) cells.now events.now half_hours.now) }
+    ensures station { station_view station.new ≡ (left_of (asking request.now) (holding (station_view station.old) cells.now events.now half_hours.now)).station }
+    ensures pages { M.pages memory.new ≡ slice_set (M.pages memory.old) page (left_of (asking request.now) (holding (station_view station.old) cells.now events.now half_hours.now)).page }
+    ensures sizes { ((station_view station.new).events.capacity ≡ (station_view station.old).events.capacity) × ((station_view station.new).half_hours.capacity ≡ (station_view station.old).half_hours.capacity) }
+{
+    obey(request, station, memory, page, cells, events, half_hours)
 }
 
 // The longest answer.
@@ -154,21 +147,17 @@ const ABNORMAL: [u8; 2] = *b"FF";
 
 // Writes an answer, and tells its length and its fault.
 fn write_saying(
-    answer: &mut [u8],
-    address: [u8; 4],
-    code: [u8; 2],
-    content: &[u8],
+    saying: &Answer<'_>,
     fault: Option<Fault>,
+    answer: &mut [u8],
 ) -> Result<Reply, Unanswered>
-    requires { length content.now ≤ 556 }
-    ensures told { result ≡ told_with fault (counted (length answer.old) content.now) }
-    ensures wrote { answer.new ≡ fronted address code content.now answer.old }
+    requires { length saying.now.content.now ≤ 556 }
+    ensures told { result ≡ told_with fault (counted (length answer.old) saying.now.content.now) }
+    ensures wrote { answer.new ≡ fronted saying.now.address saying.now.command saying.now.content.now answer.old }
     ensures answers { 567 ≤ length answer.old → is_ok result ≡ true }
 {
-    match write_answer(answer, address, code, content) {
-        Ok(length) => Ok(Reply { length, fault }),
-        Err(_) => Err(Unanswered::NoRoom),
-    }
+    let length = saying.write(answer).map_err(|_| Unanswered::NoRoom)?;
+    Ok(Reply { length, fault })
 }
 
 // Writes what was composed, or the abnormal answer.
@@ -182,14 +171,22 @@ fn write_reply(
     ensures answers { 567 ≤ length answer.old → is_ok result ≡ true }
 {
     match composed {
-        Ok(normal) => write_saying(
-            answer,
-            address,
-            normal.code,
-            normal.content.as_slice(),
-            None,
-        ),
-        Err(fault) => write_saying(answer, address, ABNORMAL, &[], Some(*fault)),
+        Ok(normal) => {
+            let saying = Answer {
+                address,
+                command: normal.code,
+                content: normal.content.as_slice(),
+            };
+            write_saying(&saying, None, answer)
+        }
+        Err(fault) => {
+            let saying = Answer {
+                address,
+                command: ABNORMAL,
+                content: &[],
+            };
+            write_saying(&saying, Some(*fault), answer)
+        }
     }
 }
 
@@ -200,30 +197,6 @@ fn shares_fit(station: &Station, events: usize, half_hours: usize) -> bool
     events == station.events.capacity() && half_hours == station.half_hours.capacity()
 }
 
-// Answers once all that it needs is there: the page as it is, shares that fit, and room.
-fn answer_with<M: SettingsMemory>(
-    request: &Request<'_>,
-    station: &mut Station,
-    memory: &mut M,
-    page: u16,
-    cells: &Page,
-    events: &[Event],
-    half_hours: &[HalfHour],
-    answer: &mut [u8],
-) -> Result<Reply, Unanswered>
-    requires events { length events.now ≡ (station_view station.old).events.capacity }
-    requires half_hours { length half_hours.now ≡ (station_view station.old).half_hours.capacity }
-    requires room { 567 ≤ length answer.old }
-    ensures told { result ≡ told (length answer.old) (replied (asking request.now) (holding (station_view station.old) cells.now events.now half_hours.now)) }
-    ensures wrote { answer.new ≡ written (asking request.now) (said (replied (asking request.now) (holding (station_view station.old) cells.now events.now half_hours.now))) answer.old }
-    ensures station { station_view station.new ≡ (left_of (asking request.now) (holding (station_view station.old) cells.now events.now half_hours.now)).station }
-    ensures pages { M.pages memory.new ≡ pages_of (asking request.now) (M.pages memory.old) page }
-    ensures answers { is_ok result ≡ true }
-{
-    let composed = compose(request, station, memory, page, cells, events, half_hours);
-    write_reply(&composed, request.address, answer)
-}
-
 // Whether a buffer has room for the longest answer.
 fn roomy(room: usize) -> bool
     ensures { result ≡ nat_le 567 room }
@@ -231,8 +204,10 @@ fn roomy(room: usize) -> bool
     room >= LONGEST_ANSWER
 }
 
-// Asks for all that an answer needs, and answers.
-fn attempt<M: SettingsMemory>(
+// The answer of a station, with its page of a memory and its shares, to a request, and what it leaves. Where there is
+// no page, a share does not fit or the buffer has no room for the longest answer, nothing is done and nothing written.
+#[tactic(auto, using(crate::proofs::Leaving::held_ok))]
+pub fn respond<M: SettingsMemory>(
     request: &Request<'_>,
     station: &mut Station,
     memory: &mut M,
@@ -257,28 +232,6 @@ fn attempt<M: SettingsMemory>(
     if !roomy(answer.len()) {
         return Err(Unanswered::NoRoom);
     }
-    answer_with(
-        request, station, memory, page, &cells, events, half_hours, answer,
-    )
-}
-
-// The answer of a station, with its page of a memory and its shares, to a request, and what it leaves. Where there is
-// no page, a share does not fit or the buffer has no room for the longest answer, nothing is done and nothing written.
-pub fn respond<M: SettingsMemory>(
-    request: &Request<'_>,
-    station: &mut Station,
-    memory: &mut M,
-    page: u16,
-    events: &[Event],
-    half_hours: &[HalfHour],
-    answer: &mut [u8],
-) -> Result<Reply, Unanswered>
-    ensures told { result ≡ responded (asking request.now) (held_by (station_view station.old) events.now half_hours.now (loaded (M.pages memory.old) page) (length answer.old)) (length answer.old) }
-    ensures wrote { answer.new ≡ answer_left (asking request.now) (held_by (station_view station.old) events.now half_hours.now (loaded (M.pages memory.old) page) (length answer.old)) answer.old }
-    ensures station { station_view station.new ≡ station_left (asking request.now) (held_by (station_view station.old) events.now half_hours.now (loaded (M.pages memory.old) page) (length answer.old)) (station_view station.old) }
-    ensures pages { M.pages memory.new ≡ pages_left (asking request.now) (held_by (station_view station.old) events.now half_hours.now (loaded (M.pages memory.old) page) (length answer.old)) (M.pages memory.old) page }
-    ensures sizes { ((station_view station.new).events.capacity ≡ (station_view station.old).events.capacity) × ((station_view station.new).half_hours.capacity ≡ (station_view station.old).half_hours.capacity) }
-    ensures answers { page < length (M.pages memory.old) → shares_fit (station_view station.old) events.now half_hours.now ≡ true → 567 ≤ length answer.old → is_ok result ≡ true }
-{
-    attempt(request, station, memory, page, events, half_hours, answer)
+    let composed = compose(request, station, memory, page, &cells, events, half_hours);
+    write_reply(&composed, request.address, answer)
 }

@@ -1,5 +1,5 @@
 // The settings table: one row for each field of a bulk write that is a setting.
-ghost use Rattle.std.specs.Prelude.{◌≡◌, ℕ, ◌+◌, ◌≤◌, true};
+ghost use Rattle.std.specs.Prelude.{◌≡◌, true};
 ghost use Rattle.std.specs.List.{AllByRecursion, range_with_len};
 ghost use Rattle.command.specs.Table.{rows, table, Within, cells_in, covered_once, initials_allowed, limits_in_order, initial_page, cells_of, with_initial};
 

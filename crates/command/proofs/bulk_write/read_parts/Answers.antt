@@ -8,10 +8,7 @@ use Rattle.command.proofs.PartSteps.{part_more}
 use Rattle.command.proofs.bulk_write.read_parts.Goals as goal
 
 pub read_part-requires : goal.read_part-requires
-read_part-requires c = record {
-  long = c.requires;
-  lawful = All-get_or LawfulPart c.parts-part-items.result.now _ _ c.loop-part-test.true c.parts-part-items.ensures.lawful;
-}
+read_part-requires c = All-get_or LawfulPart c.parts-part-items.result.now _ _ c.loop-part-test.true c.parts-part-items.ensures.lawful
 
 pub returns-in_err-read_part : goal.returns-in_err-read_part
 returns-in_err-read_part c =

@@ -1,7 +1,8 @@
 use Rattle.std.proofs.Common.{◌≡◌, ℕ, ◌+◌, ◌<◌, List, [], ◌∷◌, ◌++◌, length, get_or, take, sym, ap, ◌∙◌, arith}
+use Rattle.std.proofs.lemmas.Grind.{common_steps}
 use Rattle.std.proofs.lemmas.List.{take_more, take_all, append_assoc, append-nil}
-use Rattle.command.specs.declared.point.Point.{Point}
-use Rattle.command.specs.Readings.{octets_of, all_octets}
+use Rattle.command.specs.Points.{Point, octets_of}
+use Rattle.command.specs.Readings.{all_octets}
 use Rattle.command.proofs.gather.show_points.Goals as goal
 
 octets-push : (ps : List Point) (p : Point) → all_octets (ps ++ p ∷ []) ≡ all_octets ps ++ octets_of p
@@ -16,8 +17,8 @@ more ps new old octets i d h s inv e =
 
 pub loop-point-preserved : goal.loop-point-preserved
 loop-point-preserved c = (
-  more c.args.points.now _ _ _ c.loop-point.point-index _ c.loop-point-test.true c.octets.ensures c.loop-point.invariant.0 c.push.ensures.behind,
-  omega arith,
+  more c.args.points.now _ _ _ c.loop-point.point-index _ c.loop-point-test.true c.point_octets.ensures c.loop-point.invariant.0 c.push_octets.ensures,
+  grind (arith, common_steps),
 )
 
 pub returns : goal.returns

@@ -11,7 +11,7 @@ more xs new old i octet h s inv e =
 
 pub loop-cell-preserved : goal.loop-cell-preserved
 loop-cell-preserved c = (
-  more c.args.cells.now _ _ c.loop-cell.cell-index _ c.loop-cell-test.true c.sent_octet.ensures c.loop-cell.invariant.0 c.push.ensures.behind,
+  more c.args.cells.now _ _ c.loop-cell.cell-index _ c.loop-cell-test.true c.sent_octet.ensures c.loop-cell.invariant.0 c.push.ensures.items,
   omega arith,
 )
 

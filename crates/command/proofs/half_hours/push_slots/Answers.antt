@@ -1,5 +1,6 @@
 use Rattle.std.proofs.Common.{◌≡◌, ℕ, ◌+◌, ◌<◌, List, ◌++◌, length, get_or, take, sym, ap, ◌∙◌, arith}
 use Rattle.std.specs.List.{flat_map}
+use Rattle.std.proofs.lemmas.Grind.{common_steps}
 use Rattle.std.proofs.lemmas.List.{flat_map_more, take_more, take_all}
 use Rattle.command.specs.declared.half_hours.Slot.{Slot}
 use Rattle.command.specs.Gathered.{gathered}
@@ -15,8 +16,8 @@ more xs i x start old new h at inv e =
 
 pub loop-slot-preserved : goal.loop-slot-preserved
 loop-slot-preserved c = (
-  more c.args.slots.now c.loop-slot.slot-index c.slot-item.result _ _ _ (omega arith) c.slot-item.is c.loop-slot.invariant.0 c.push_demand.ensures.behind,
-  omega arith,
+  more c.args.slots.now c.loop-slot.slot-index c.slot-item.result _ _ _ (omega arith) c.slot-item.is c.loop-slot.invariant.0 (c.push_octets.ensures ∙ ap (λ (t : List ℕ). gathered c.loop-slot.content ++ t) c.point_octets.ensures),
+  grind (arith, common_steps),
 )
 
 pub returns : goal.returns

@@ -1,6 +1,6 @@
 use Rattle.std.proofs.Common.{◌≡◌, ℕ, List, [], ◌++◌, map, ap, ◌∙◌}
 use Rattle.std.specs.List.{range_with_len, flat_map}
-use Rattle.book.specs.Ranked.{view_of, ranked}
+use Rattle.book.specs.Lent.{held_in}
 use Rattle.calendar.specs.Moment.{Moment, moment_of}
 use Rattle.command.specs.declared.half_hour.HalfHour.{HalfHour}
 use Rattle.command.specs.declared.half_hours.Slot.{Slot}
@@ -19,5 +19,5 @@ shown received none head all m rs first ss p q r s t =
 
 pub returns : goal.returns
 returns c =
-    shown c.args.received.now _ _ _ (moment_of c.args.start) (ranked (view_of c.args.ring.now) c.args.places.now) c.slots_from-slots.result c.note_held.new.slots
-    c.new-content.ensures.none c.push.ensures.behind c.push_slots.ensures c.note_held.ensures c.slots_from-slots.ensures
+    shown c.args.received.now _ _ _ (moment_of c.args.start) (held_in c.args.records.now) c.slots_from-slots.result c.note_held.new.slots
+    c.new-content.ensures c.push_octets.ensures c.push_slots.ensures c.note_held.ensures c.slots_from-slots.ensures
