@@ -1,4 +1,5 @@
-pub mod Roll
+pub mod Parts
+pub mod Places
 pub mod Tables
 pub mod Serving
 pub mod Reading

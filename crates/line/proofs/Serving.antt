@@ -1,7 +1,6 @@
 -- One frame that a station answers, as the definitions have it.
-use Rattle.std.proofs.Common.{◌≡◌, ℕ, ◌+◌, ◌-◌, ◌*◌, ◌<◌, ◌≤◌, min, true, cond, ltb, leb, List, [], ◌++◌, length, get_or, take, drop, set, Some, Ok, Err, Result, sym, refl, ap, ◌∙◌, inl, inr, add-mul, arith}
-use Rattle.std.proofs.lemmas.List.{length-append, length-take, length-drop}
-use Rattle.std.proofs.lemmas.Nat.{mul-le}
+use Rattle.std.proofs.Common.{◌≡◌, ℕ, ◌+◌, ◌-◌, ◌*◌, ◌<◌, ◌≤◌, true, cond, ltb, leb, List, [], ◌++◌, length, get_or, take, drop, set, Some, Ok, Err, Result, sym, refl, ap, ◌∙◌, inl, inr, arith}
+use Rattle.std.proofs.lemmas.List.{length-append}
 use Rattle.std.proofs.lemmas.Bool.{cases_Bool, cond-true, cond-false, lt-ltb, le-leb, eq-eqb, and_from}
 use Rattle.frame.specs.declared.fault.Fault.{Fault}
 use Rattle.frame.specs.Requests.{Asked, verified, asked_by, after_verifying, opened}
@@ -20,19 +19,17 @@ use Rattle.command.specs.Commands.{command_of, answer_code}
 use Rattle.command.specs.Questions.{then}
 use Rattle.command.specs.Readings.{content_for}
 use Rattle.command.specs.Replies.{Saying, saying, said, fault_in, replied, left_of, told_with, told, shares_fit, held_by, responded, answer_left}
+use Rattle.line.proofs.Parts.{length-share}
 use Rattle.line.specs.Receiving.{place_of, nobody, Lent, held_at, outcome, octets_of, told_of, fronted_by, served, dispatched}
-
-clash : {X : Type 0} → ◌≡◌ {A = ℕ} 0 1 → X
-clash z = absurd (let no_way : ⊥ = omega arith in no_way)
 
 -- a frame that was taken apart has four octets of a number
 verified_four : (v : Result (Unit {0}) Fault) (body : List ℕ) (a : Asked) → Ok a ≡ after_verifying v body → length a.address ≡ 4
 verified_four (Ok u) body a e = let same : a ≡ asked_by body = cc in ap (λ (x : Asked). length x.address) same
-verified_four (Err f) body a e = clash (cc)
+verified_four (Err f) body a e = cc
 
 address_four : (xs : List ℕ) (a : Asked) → Ok a ≡ opened xs → length a.address ≡ 4
 address_four xs a e = elim (cases_Bool (ltb (length xs) 8)) [
-  | inl short ↦ let no = e ∙ cond-true _ _ _ short in clash (cc)
+  | inl short ↦ let no = e ∙ cond-true _ _ _ short in cc
   | inr long ↦ verified_four (verified (take (length xs - 2) xs) (drop (length xs - 2) xs)) (take (length xs - 2) xs) a (e ∙ cond-false _ _ _ long)
 ]
 
@@ -59,7 +56,7 @@ module _ (a : Asked) (r : Result Saying CommandFault) (reply : Reply) (buffer ou
   roomy : room (length buffer) (said r).content ≡ true
   roomy = elim (cases_Bool (room (length buffer) (said r).content)) [
     | inl e ↦ e
-    | inr e ↦ let no = tells ∙ ap (told_with (fault_in r)) (cond-false _ _ _ e) in clash (cc)
+    | inr e ↦ let no = tells ∙ ap (told_with (fault_in r)) (cond-false _ _ _ e) in cc
   ]
 
   abbrev octets : List ℕ
@@ -77,25 +74,18 @@ module _ (a : Asked) (r : Result Saying CommandFault) (reply : Reply) (buffer ou
   pub out_is : out ≡ fronted_by octets buffer
   out_is = wrote ∙ cond-true _ _ _ roomy ∙ ap (λ n. octets ++ drop n buffer) (sym counted_is)
 
--- the k-th of n parts of c
-pub part_in : (k n c len : ℕ) → k < n → len ≡ n * c → k * c + c ≤ len
-part_in k n c len h e = omega (arith, mul-le (k + 1) c n c (omega arith) (omega arith), add-mul k 1 c)
-
-length-share : {R : Type 0} (k n c : ℕ) (xs : List R) → k < n → length xs ≡ n * c → length (share c k xs) ≡ c
-length-share k n c xs h e = let p = part_in k n c (length xs) h e in length-take c (drop (k * c) xs) ∙ ap (min c) (length-drop (k * c) xs) ∙ omega arith
-
 -- the shares of a station whose rings have the sizes of the line's shares
-module _ (x : Lent) (s : StationView) (n k : ℕ)
-    (among : k < n)
+module _ (x : Lent) (s : StationView) (n m k : ℕ)
+    (among : k < n) (among' : k < m)
     (events_sized : s.events.capacity ≡ x.event_share)
     (half_hours_sized : s.half_hours.capacity ≡ x.half_hour_share)
     (events_fit : length x.events ≡ n * x.event_share)
-    (half_hours_fit : length x.half_hours ≡ n * x.half_hour_share) where
+    (half_hours_fit : length x.half_hours ≡ m * x.half_hour_share) where
   pub fit_is : (events : List Event) (half_hours : List HalfHour) → events ≡ share x.event_share k x.events → half_hours ≡ share x.half_hour_share k x.half_hours → shares_fit s events half_hours ≡ true
   fit_is events half_hours e h =
       and_from _ _
       (eq-eqb _ _ (ap length e ∙ length-share k n x.event_share x.events among events_fit ∙ sym events_sized))
-      (eq-eqb _ _ (ap length h ∙ length-share k n x.half_hour_share x.half_hours among half_hours_fit ∙ sym half_hours_sized))
+      (eq-eqb _ _ (ap length h ∙ length-share k m x.half_hour_share x.half_hours among' half_hours_fit ∙ sym half_hours_sized))
 
   pub held_is : (events : List Event) (half_hours : List HalfHour) → events ≡ share x.event_share k x.events → half_hours ≡ share x.half_hour_share k x.half_hours → s ≡ get_or x.stations k nobody → k < length x.pages → (n : ℕ) → 567 ≤ n → held_by s events half_hours (loaded x.pages k) n ≡ Ok (held_at x k)
   held_is events half_hours e h here within n wide =

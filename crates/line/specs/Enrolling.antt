@@ -1,5 +1,6 @@
 -- What enrolling tells, and how it leaves the line and the memory.
-use Rattle.std.specs.Prelude.{ℕ, ◌*◌, Bool, true, false, cond, ◌&&◌, ◌||◌, List, [], ◌∷◌, ◌++◌, map, length, take, drop, Ok, Err, Result, ◌==◌, nat_le, nat_lt}
+use Rattle.std.specs.Prelude.{ℕ, ◌*◌, Bool, cond, ◌&&◌, ◌||◌, List, [], ◌∷◌, ◌++◌, map, length, take, drop, Ok, Err, Result, ◌==◌, nat_le, nat_lt}
+use Rattle.std.specs.List.{list_all, list_any}
 use Rattle.frame.specs.declared.station_number.StationNumber.{StationNumber}
 use Rattle.frame.specs.Reception.{idle}
 use Rattle.book.specs.Ranked.{RingView, empty}
@@ -33,14 +34,15 @@ count_asked n = unless (n == 0 || nat_lt 32 n) WrongStationCount
 abbrev pub numbered : ℕ → Bool
 numbered n = nat_lt 0 n && nat_lt n 4096
 
+abbrev pub all_numbered : List StationNumber → Bool
+all_numbered ns = list_all (λ n. numbered n.value) ns
+
 abbrev pub numbers_asked : List StationNumber → Verdict
-numbers_asked [] = Ok tt
-numbers_asked (n ∷ ns) = cond (numbered n.value) (numbers_asked ns) (Err WrongStationNumber)
+numbers_asked ns = cond (all_numbered ns) (Ok tt) (Err WrongStationNumber)
 
 -- 4: all are different
 abbrev pub has : ℕ → List StationNumber → Bool
-has v [] = false
-has v (n ∷ ns) = cond (n.value == v) true (has v ns)
+has v ns = list_any (λ n. n.value == v) ns
 
 abbrev pub different_asked : List StationNumber → Verdict
 different_asked [] = Ok tt
@@ -54,11 +56,14 @@ pages_asked n pages = unless (nat_lt pages n) TooFewPages
 abbrev pub fits : ℕ → ℕ → ℕ → ℕ → ℕ → Bool
 fits least most n places share = nat_le least share && (nat_le share most && places == n * share)
 
+abbrev pub fit_asked : ℕ → ℕ → Refusal → ℕ → ℕ → ℕ → Verdict
+fit_asked least most wrong n places share = cond (fits least most n places share) (Ok tt) (Err wrong)
+
 abbrev pub event_book_asked : ℕ → ℕ → ℕ → Verdict
-event_book_asked n places share = cond (fits 2 5000 n places share) (Ok tt) (Err WrongEventBook)
+event_book_asked n places share = fit_asked 2 5000 WrongEventBook n places share
 
 abbrev pub half_hour_book_asked : ℕ → ℕ → ℕ → Verdict
-half_hour_book_asked n places share = cond (fits 1 3000 n places share) (Ok tt) (Err WrongHalfHourBook)
+half_hour_book_asked n places share = fit_asked 1 3000 WrongHalfHourBook n places share
 
 -- a book as it is lent: how many places, and how many of them for each station
 pub record Book : Type 0 where

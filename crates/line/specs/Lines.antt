@@ -1,5 +1,5 @@
 -- A line as plain values, without what their types say of them.
-use Rattle.std.specs.Prelude.{ℕ, List, [], map, take}
+use Rattle.std.specs.Prelude.{ℕ, List, [], map}
 use Rattle.frame.specs.Reception.{Link, idle, link_of}
 use Rattle.command.specs.declared.station.Station.{Station}
 use Rattle.command.specs.Stations.{StationView, station_view}
@@ -18,7 +18,7 @@ views_of ss = map station_view ss
 abbrev pub line_view : Line → LineView
 line_view l = record {
   link = link_of l.receiver;
-  stations = views_of (take l.count l.stations);
+  stations = views_of l.stations.items;
   event_share = l.event_share;
   half_hour_share = l.half_hour_share;
 }

@@ -1,5 +1,5 @@
 -- What receiving one signal tells, and how it leaves the line and the answer buffer.
-use Rattle.std.specs.Prelude.{ℕ, ◌+◌, ◌*◌, cond, ◌&&◌, List, [], ◌∷◌, ◌++◌, length, drop, Some, None, Ok, Err, Option, Result, ◌==◌, nat_lt, slice_index_or, slice_set}
+use Rattle.std.specs.Prelude.{ℕ, ◌*◌, cond, ◌&&◌, List, [], ◌++◌, length, drop, Some, None, Ok, Err, Option, Result, ◌==◌, nat_lt, position, ok_or, slice_index_or, slice_set}
 use Rattle.frame.specs.declared.fault.Fault.{Fault}
 use Rattle.frame.specs.declared.fault.Fault.TheVariants.{UnknownStation}
 use Rattle.frame.specs.declared.signal.Signal.{Signal}
@@ -18,6 +18,7 @@ use Rattle.line.specs.declared.reception.Reception.{Reception}
 use Rattle.line.specs.declared.reception.Reception.TheVariants.{Nothing, Dropped, Answered}
 use Rattle.line.specs.declared.refusal.Refusal.{Refusal}
 use Rattle.line.specs.declared.refusal.Refusal.TheVariants.{NotEnrolled, PagesMissing, WrongBookLength, ShortAnswerBuffer}
+use Rattle.line.specs.declared.shares.Shares.{Shares}
 use Rattle.line.specs.Lines.{LineView}
 use Rattle.line.specs.Enrolling.{Verdict, unless, next, after}
 
@@ -44,18 +45,16 @@ abbrev pub receiving_asked : LineView → ℕ → ℕ → ℕ → ℕ → Verdic
 receiving_asked l pages events half_hours room =
     next (enrolled_asked l) (next (pages_present_asked l pages) (next (books_asked l events half_hours) (room_asked room)))
 
--- the first place of a station's number, counted from k
-abbrev pub place_from : ℕ → ℕ → List StationView → Option ℕ
-place_from k n [] = None
-place_from k n (s ∷ ss) = cond (s.number == n) (Some k) (place_from (k + 1) n ss)
+-- the first place of a station's number
+abbrev pub place_in : ℕ → List StationView → Option ℕ
+place_in n ss = position (λ s. s.number == n) ss
 
 abbrev pub known : Option ℕ → Result ℕ Fault
-known (Some k) = Ok k
-known None = Err UnknownStation
+known o = ok_or o UnknownStation
 
 -- 25: the place of the station that an address names; an address that is no number names none
 abbrev pub place_of : Option StationNumber → List StationView → Result ℕ Fault
-place_of (Some n) ss = known (place_from 0 n.value ss)
+place_of (Some n) ss = known (place_in n.value ss)
 place_of None ss = Err UnknownStation
 
 -- a station that is none, for places past the last
@@ -96,6 +95,17 @@ pub record Lent : Type 0 where
 -- what the station at place k holds: page k, and share k of each book
 abbrev pub held_at : Lent → ℕ → Holding
 held_at x k = holding (slice_index_or x.stations k nobody) (slice_index_or x.pages k []) (share x.event_share k x.events) (share x.half_hour_share k x.half_hours)
+
+-- what a frame is answered by: a table of stations, a memory and the shares of both books
+abbrev pub lent : List StationView → List (List ℕ) → Shares Event → Shares HalfHour → Lent
+lent stations pages events half_hours = record {
+  stations = stations;
+  pages = pages;
+  events = events.book.now;
+  event_share = events.size;
+  half_hours = half_hours.book.now;
+  half_hour_share = half_hours.size;
+}
 
 -- nothing but a fault, or nothing at all, is told: all stays
 abbrev pub silent : Result (Option Reply) Fault → Lent → List ℕ → Outcome

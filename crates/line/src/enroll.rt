@@ -1,12 +1,14 @@
 // Enrolling the stations of a line.
-ghost use Rattle.std.specs.Prelude.{◌≡◌, ℕ, ◌+◌, ◌-◌, ◌*◌, ◌<◌, ◌≤◌, map, length, take, OnOk};
+ghost use Rattle.std.specs.Prelude.{◌≡◌, ◌<◌, ◌≤◌, map, length, OnOk};
 ghost use Rattle.book.specs.Ranked.{view_of, empty};
 ghost use Rattle.line.specs.Shares.{event_shares, half_hour_shares, alike};
 ghost use Rattle.line.specs.Lines.{views_of, line_view, new_line};
-ghost use Rattle.line.specs.Enrolling.{new_asked, count_asked, numbered, numbers_asked, has, different_asked, pages_asked, fits, event_book_asked, half_hour_book_asked, book, enrolling_asked, enrolled_with, enrolled_line, initial_pages, line_after_enrolling, pages_after_enrolling};
+ghost use Rattle.line.specs.Enrolling.{new_asked, count_asked, numbered, all_numbered, numbers_asked, different_asked, pages_asked, fit_asked, book, enrolling_asked, enrolled_with, enrolled_line, initial_pages, line_after_enrolling, pages_after_enrolling};
 
 use crate::line::{Line, MOST_STATIONS};
+use crate::records::Record;
 use crate::refusal::Refusal;
+use arrayvec::ArrayVec;
 use book::ring::Ring;
 use command::event::Event;
 use command::half_hour::HalfHour;
@@ -19,15 +21,14 @@ use memory::{SettingsMemory, restore};
 // The highest number of a station.
 const HIGHEST_NUMBER: u16 = 4095;
 
-// The least and the most places of a share.
-const LEAST_EVENTS: usize = 2;
+// A book as it is lent: how many places, and how many of them for each station.
+#[derive(Clone, Copy)]
+struct BookSize {
+    places: usize,
+    share: usize,
+}
 
-const MOST_EVENTS: usize = 5000;
-
-const LEAST_HALF_HOURS: usize = 1;
-
-const MOST_HALF_HOURS: usize = 3000;
-
+// Kept: a count is at most 32 by this question, until there is a table that says so by its type.
 fn count_asked(count: usize) -> Result<(), Refusal>
     ensures asked { result ≡ count_asked count }
     ensures few { OnOk result (count ≤ 32) }
@@ -44,35 +45,32 @@ fn numbered(number: u16) -> bool
     0 < number && number <= HIGHEST_NUMBER
 }
 
+fn all_numbered(numbers: &[StationNumber]) -> bool
+    ensures { result ≡ all_numbered numbers.now }
+{
+    numbers.iter().all(|number| numbered(number.value))
+}
+
 fn numbers_asked(numbers: &[StationNumber]) -> Result<(), Refusal>
     ensures { result ≡ numbers_asked numbers.now }
 {
-    for number in numbers {
-        if !numbered(number.value) {
-            return Err(Refusal::WrongStationNumber);
-        }
+    if all_numbered(numbers) {
+        Ok(())
+    } else {
+        Err(Refusal::WrongStationNumber)
     }
-    Ok(())
 }
 
-fn has(numbers: &[StationNumber], value: u16) -> bool
-    ensures { result ≡ has value numbers.now }
-{
-    for number in numbers {
-        if number.value == value {
-            return true;
-        }
-    }
-    false
-}
-
+// Kept: an `any` would go over the rests of a list, and the library has no iterator of these.
 fn different_asked(numbers: &[StationNumber]) -> Result<(), Refusal>
     ensures { result ≡ different_asked numbers.now }
 {
-    for (k, number) in numbers.iter().enumerate() {
-        if has(&numbers[k + 1..numbers.len()], number.value) {
+    let mut left = numbers;
+    while let Some((number, others)) = left.split_first() {
+        if others.contains(number) {
             return Err(Refusal::RepeatedNumber);
         }
+        left = others;
     }
     Ok(())
 }
@@ -81,42 +79,24 @@ fn pages_asked(count: usize, pages: u16) -> Result<(), Refusal>
     ensures asked { result ≡ pages_asked count pages }
     ensures enough { OnOk result (count ≤ pages) }
 {
-    if (pages as usize) < count {
+    if usize::from(pages) < count {
         return Err(Refusal::TooFewPages);
     }
     Ok(())
 }
 
 // Whether a book has so many places for each station, and they are not too few and not too many.
-fn fits(least: usize, most: usize, count: usize, places: usize, share: usize) -> bool
-    requires count { count ≤ 32 }
-    requires most { most ≤ 5000 }
-    ensures { result ≡ fits least most count places share }
-{
-    least <= share && share <= most && places == count * share
-}
-
-fn event_book_asked(count: usize, places: usize, share: usize) -> Result<(), Refusal>
+// Kept: the bounds of a share are asked here, and are in the type of a line once it is enrolled.
+fn fit_asked<R: Record>(count: usize, book: BookSize) -> Result<(), Refusal>
     requires { count ≤ 32 }
-    ensures asked { result ≡ event_book_asked count places share }
-    ensures share { OnOk result ((0 < share) × (share ≤ 5000)) }
+    ensures asked { result ≡ fit_asked R.LEAST_SHARE R.MOST_SHARE R.WRONG_BOOK count book.places book.share }
+    ensures share { OnOk result ((0 < book.share) × (book.share ≤ R.MOST_SHARE)) }
 {
-    if fits(LEAST_EVENTS, MOST_EVENTS, count, places, share) {
+    let BookSize { places, share } = book;
+    if R::LEAST_SHARE <= share && share <= R::MOST_SHARE && places == count * share {
         Ok(())
     } else {
-        Err(Refusal::WrongEventBook)
-    }
-}
-
-fn half_hour_book_asked(count: usize, places: usize, share: usize) -> Result<(), Refusal>
-    requires { count ≤ 32 }
-    ensures asked { result ≡ half_hour_book_asked count places share }
-    ensures share { OnOk result ((0 < share) × (share ≤ 3000)) }
-{
-    if fits(LEAST_HALF_HOURS, MOST_HALF_HOURS, count, places, share) {
-        Ok(())
-    } else {
-        Err(Refusal::WrongHalfHourBook)
+        Err(R::WRONG_BOOK)
     }
 }
 
@@ -125,23 +105,23 @@ fn empty_ring(share: usize) -> Ring
     requires { 0 < share }
     ensures { view_of result ≡ empty share }
 {
-    match Ring::new(share) {
-        Some(ring) => ring,
-        None => unreachable(),
-    }
+    Ring::new(share).unwrap()
 }
 
-// The table with a station for each number, at its first places.
-fn table_of(numbers: &[StationNumber], events: Ring, half_hours: Ring) -> [Station; 32]
+// A station for each number, in their order.
+fn stations_of(
+    numbers: &[StationNumber],
+    events: Ring,
+    half_hours: Ring,
+) -> ArrayVec<Station, MOST_STATIONS>
     requires { length numbers.now ≤ 32 }
-    ensures stations { views_of (take (length numbers.now) result) ≡ map (enrolled_with (view_of events) (view_of half_hours)) numbers.now }
-    ensures event_shares { event_shares result ≡ alike (view_of events).capacity }
-    ensures half_hour_shares { half_hour_shares result ≡ alike (view_of half_hours).capacity }
+    ensures stations { views_of result.items ≡ map (enrolled_with (view_of events) (view_of half_hours)) numbers.now }
+    ensures event_shares { event_shares result.items ≡ alike (length numbers.now) (view_of events).capacity }
+    ensures half_hour_shares { half_hour_shares result.items ≡ alike (length numbers.now) (view_of half_hours).capacity }
 {
-    let vacant = Station::new(StationNumber { value: 0 }, events, half_hours);
-    let mut stations = [vacant; MOST_STATIONS];
-    for (k, number) in numbers.iter().enumerate() {
-        stations[k] = Station::new(*number, events, half_hours);
+    let mut stations = ArrayVec::new();
+    for number in numbers {
+        stations.push(Station::new(*number, events, half_hours));
     }
     stations
 }
@@ -153,7 +133,7 @@ fn restore_pages<M: SettingsMemory>(memory: &mut M, count: u16)
 {
     let cells = initial_page();
     for page in 0..count {
-        let _ = restore(memory, page, &cells);
+        restore(memory, page, &cells).unwrap();
     }
 }
 
@@ -162,11 +142,9 @@ impl Line {
     pub fn new() -> Line
         ensures { line_view result ≡ new_line }
     {
-        let ring = empty_ring(1);
         Line {
             receiver: Receiver::new(),
-            stations: table_of(&[], ring, ring),
-            count: 0,
+            stations: ArrayVec::new(),
             event_share: 1,
             half_hour_share: 1,
         }
@@ -186,23 +164,21 @@ impl Line {
         &self,
         numbers: &[StationNumber],
         pages: u16,
-        event_places: usize,
-        event_share: usize,
-        half_hour_places: usize,
-        half_hour_share: usize,
+        events: BookSize,
+        half_hours: BookSize,
     ) -> Result<(), Refusal>
         ensures few { OnOk result ((length numbers.now ≤ 32) × (length numbers.now ≤ pages)) }
-        ensures events { OnOk result ((0 < event_share) × (event_share ≤ 5000)) }
-        ensures half_hours { OnOk result ((0 < half_hour_share) × (half_hour_share ≤ 3000)) }
-        ensures asked { result ≡ enrolling_asked (line_view self.now) numbers.now pages (book event_places event_share) (book half_hour_places half_hour_share) }
+        ensures events { OnOk result ((0 < events.share) × (events.share ≤ 5000)) }
+        ensures half_hours { OnOk result ((0 < half_hours.share) × (half_hours.share ≤ 3000)) }
+        ensures asked { result ≡ enrolling_asked (line_view self.now) numbers.now pages (book events.places events.share) (book half_hours.places half_hours.share) }
     {
         self.new_asked()?;
         count_asked(numbers.len())?;
         numbers_asked(numbers)?;
         different_asked(numbers)?;
         pages_asked(numbers.len(), pages)?;
-        event_book_asked(numbers.len(), event_places, event_share)?;
-        half_hour_book_asked(numbers.len(), half_hour_places, half_hour_share)
+        fit_asked::<Event>(numbers.len(), events)?;
+        fit_asked::<HalfHour>(numbers.len(), half_hours)
     }
 
     // The line with its stations.
@@ -214,12 +190,11 @@ impl Line {
     {
         *self = Line {
             receiver: Receiver::new(),
-            stations: table_of(
+            stations: stations_of(
                 numbers,
                 empty_ring(event_share),
                 empty_ring(half_hour_share),
             ),
-            count: numbers.len(),
             event_share,
             half_hour_share,
         };
@@ -242,10 +217,14 @@ impl Line {
         self.enrolling_asked(
             numbers,
             memory.page_count(),
-            events.len(),
-            event_share,
-            half_hours.len(),
-            half_hour_share,
+            BookSize {
+                places: events.len(),
+                share: event_share,
+            },
+            BookSize {
+                places: half_hours.len(),
+                share: half_hour_share,
+            },
         )?;
         restore_pages(memory, numbers.len() as u16);
         self.take_in(numbers, event_share, half_hour_share);

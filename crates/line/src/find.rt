@@ -1,7 +1,7 @@
 // Stations by their numbers.
-ghost use Rattle.std.specs.Prelude.{◌≡◌, ℕ, ◌+◌, ◌<◌, ◌≤◌, length, IfSome, IfOk};
+ghost use Rattle.std.specs.Prelude.{◌≡◌, ◌<◌, length, IfSome, IfOk};
 ghost use Rattle.line.specs.Lines.{views_of};
-ghost use Rattle.line.specs.Receiving.{place_from, place_of};
+ghost use Rattle.line.specs.Receiving.{place_in, place_of};
 
 use command::station::Station;
 use frame::fault::Fault;
@@ -9,15 +9,12 @@ use frame::station_number::StationNumber;
 
 // The first place of a number in a table.
 pub(crate) fn find(stations: &[Station], number: u16) -> Option<usize>
-    ensures place { result ≡ place_from 0 number (views_of stations.now) }
+    ensures place { result ≡ place_in number (views_of stations.now) }
     ensures within { IfSome result (λ k. k < length stations.now) }
 {
-    for (k, station) in stations.iter().enumerate() {
-        if station.number.value == number {
-            return Some(k);
-        }
-    }
-    None
+    stations
+        .iter()
+        .position(|station| station.number.value == number)
 }
 
 // The place of the station that an address names.
@@ -25,11 +22,7 @@ pub(crate) fn place_of(stations: &[Station], named: Option<StationNumber>) -> Re
     ensures place { result ≡ place_of named (views_of stations.now) }
     ensures within { IfOk result (λ k. k < length stations.now) }
 {
-    let Some(number) = named else {
-        return Err(Fault::UnknownStation);
-    };
-    match find(stations, number.value) {
-        Some(k) => Ok(k),
-        None => Err(Fault::UnknownStation),
-    }
+    named
+        .and_then(|number| find(stations, number.value))
+        .ok_or(Fault::UnknownStation)
 }

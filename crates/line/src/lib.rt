@@ -10,6 +10,8 @@ pub mod measure;
 pub mod readers;
 pub mod reception;
 pub mod record;
+pub mod records;
 pub mod refusal;
 mod respond;
+mod shares;
 pub mod tick;

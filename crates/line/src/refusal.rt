@@ -1,24 +1,27 @@
-// Why a call is refused. A refused call changes nothing.
+// Why a call is refused, and the number under which that is told. A refused call changes nothing.
 ghost use Rattle.std.specs.Prelude.{◌≡◌};
 ghost use Rattle.line.specs.Refusals.{number_of};
 
-#[derive(Clone, Copy, Debug, PartialEq, Eq)]
+use thiserror::Error;
+
+#[derive(Clone, Copy, Debug, PartialEq, Eq, Error)]
+#[error("refused by {}", self.number())]
 pub enum Refusal {
     // enrolling
-    NotNew,
-    WrongStationCount,
-    WrongStationNumber,
-    RepeatedNumber,
-    TooFewPages,
-    WrongEventBook,
-    WrongHalfHourBook,
+    NotNew = 1,
+    WrongStationCount = 2,
+    WrongStationNumber = 3,
+    RepeatedNumber = 4,
+    TooFewPages = 5,
+    WrongEventBook = 6,
+    WrongHalfHourBook = 7,
     // later calls
-    NotEnrolled,
-    PagesMissing,
-    WrongBookLength,
-    ShortAnswerBuffer,
-    UnknownNumber,
-    WrongKind,
+    NotEnrolled = 10,
+    PagesMissing = 11,
+    WrongBookLength = 12,
+    ShortAnswerBuffer = 13,
+    UnknownNumber = 14,
+    WrongKind = 15,
 }
 
 impl Refusal {
@@ -26,20 +29,6 @@ impl Refusal {
     pub fn number(self) -> u8
         ensures { result ≡ number_of self }
     {
-        match self {
-            Refusal::NotNew => 1,
-            Refusal::WrongStationCount => 2,
-            Refusal::WrongStationNumber => 3,
-            Refusal::RepeatedNumber => 4,
-            Refusal::TooFewPages => 5,
-            Refusal::WrongEventBook => 6,
-            Refusal::WrongHalfHourBook => 7,
-            Refusal::NotEnrolled => 10,
-            Refusal::PagesMissing => 11,
-            Refusal::WrongBookLength => 12,
-            Refusal::ShortAnswerBuffer => 13,
-            Refusal::UnknownNumber => 14,
-            Refusal::WrongKind => 15,
-        }
+        self as u8
     }
 }
