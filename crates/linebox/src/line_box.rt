@@ -2,6 +2,7 @@
 ghost use Rattle.std.specs.Prelude.{◌≡◌, length, IfOk};
 ghost use Rattle.line.specs.Lines.{line_view};
 ghost use Rattle.line.specs.Enrolling.{pages_asked};
+ghost use Rattle.line.specs.Receiving.{loan, reception_after, line_after, answer_after, pages_after};
 ghost use Rattle.memory.specs.Working.{by_page};
 ghost use Rattle.linebox.specs.Enrolled.{two_stations, verdict_of};
 
@@ -26,6 +27,7 @@ const NUMBERS: [StationNumber; 2] = [
     StationNumber { value: 0x1A0 },
 ];
 
+// Kept: the buffer has room for the longest answer, and each reception tells how much of it was written.
 #[derive(Drop)]
 pub(crate) struct LineBox {
     line: Line,
@@ -62,11 +64,19 @@ impl LineBox {
         })
     }
 
+    // Hears one octet. An answer is written to the front of the buffer.
     pub(crate) fn receive(
         &mut self,
         octet: u8,
         memory: &mut WorkingMemory<'_>,
-    ) -> Result<Reception, Refusal> {
+    ) -> Result<Reception, Refusal>
+        ensures told { result ≡ reception_after (line_view self.old.line) (Signal.Octet octet) (loan (by_page memory.old.cells.now) self.old.events self.old.half_hours) self.old.answer }
+        ensures line { line_view self.new.line ≡ line_after (line_view self.old.line) (Signal.Octet octet) (loan (by_page memory.old.cells.now) self.old.events self.old.half_hours) self.old.answer }
+        ensures answer { self.new.answer ≡ answer_after (line_view self.old.line) (Signal.Octet octet) (loan (by_page memory.old.cells.now) self.old.events self.old.half_hours) self.old.answer }
+        ensures pages { by_page memory.new.cells.now ≡ pages_after (line_view self.old.line) (Signal.Octet octet) (loan (by_page memory.old.cells.now) self.old.events self.old.half_hours) self.old.answer }
+        ensures events { self.new.events ≡ self.old.events }
+        ensures half_hours { self.new.half_hours ≡ self.old.half_hours }
+    {
         self.line.receive(
             Signal::Octet(octet),
             memory,
@@ -77,7 +87,9 @@ impl LineBox {
     }
 
     // The buffer, with the last answer at its front.
-    pub(crate) fn answer(&self) -> &[u8] {
+    pub(crate) fn answer(&self) -> &[u8]
+        ensures { result.now ≡ self.now.answer }
+    {
         &self.answer
     }
 }

@@ -5,21 +5,18 @@
 mod input;
 mod line_box;
 mod options;
+mod session;
 #[cfg(test)]
 mod tests;
 
 use crate::input::Input;
 use crate::line_box::LineBox;
 use crate::options::Word;
-use anyhow::anyhow;
-use line::reception::Reception;
-use line::refusal::Refusal;
+use crate::session::Session;
 use memory::WorkingMemory;
-use octet_text::fault::{TextFault, TextProblem};
-use octet_text::line::octet_line;
-use std::env;
-use std::io::{Read, Write};
 use std::process::ExitCode;
+use std::{env, io};
+use thiserror::Error;
 
 const HELP: &str = "linebox: two CSA-109-T stations, S001 and S1A0, polled by standard input
 
@@ -39,151 +36,49 @@ status 0 at the end of its input, and reads it in at most 18446744073709551615 t
 The shares hold 50 events and 48 half hours for each station.
 ";
 
-// Prints what a reception told.
-fn show(rt: &HostRuntime, told: Reception, answer: &[u8]) -> anyhow::Result<()> {
-    match told {
-        Reception::Nothing => Ok(()),
-        Reception::Dropped(fault) => {
-            let number = fault.number();
-            println!(rt; "dropped {number}")?;
-            Ok(())
-        }
-        Reception::Answered { length, .. } => {
-            let end = length.min(answer.len());
-            let line = octet_line(rt.alloc(), &answer[0..end])?;
-            rt.stdout().write_all(line.as_slice())?;
-            Ok(())
-        }
-    }
-}
-
-// What went wrong with the text, in words.
-fn refused_text(rt: &HostRuntime, fault: TextFault) -> anyhow::Error {
-    let line = fault.line;
-    let column = fault.column;
-    let problem = match fault.problem {
-        TextProblem::NotADigit => "no hexadecimal digit",
-        TextProblem::HalfAPair => "the text ends inside a pair",
-    };
-    match format!(in rt.alloc(); "line {line}, column {column}: {problem}") {
-        Ok(message) => anyhow!(message),
-        Err(error) => error.into(),
-    }
-}
-
-fn refused_call(rt: &HostRuntime, refusal: Refusal) -> anyhow::Error {
-    let number = refusal.number();
-    match format!(in rt.alloc(); "refused by {number}") {
-        Ok(message) => anyhow!(message),
-        Err(error) => error.into(),
-    }
-}
-
-// Takes one octet of the input.
-fn hear(
-    rt: &HostRuntime,
-    input: &mut Input,
-    line_box: &mut LineBox,
-    memory: &mut WorkingMemory<'_>,
-    character: u8,
-) -> anyhow::Result<()> {
-    let octet = match input.take(character) {
-        Ok(Some(octet)) => octet,
-        Ok(None) => return Ok(()),
-        Err(fault) => return Err(refused_text(rt, fault)),
-    };
-    match line_box.receive(octet, memory) {
-        Ok(told) => show(rt, told, line_box.answer()),
-        Err(refusal) => Err(refused_call(rt, refusal)),
-    }
-}
-
-// Reads once, and takes what came; false at the end of the input.
-fn hear_turn(
-    rt: &HostRuntime,
-    input: &mut Input,
-    line_box: &mut LineBox,
-    memory: &mut WorkingMemory<'_>,
-) -> anyhow::Result<bool> {
-    let mut buffer = [0u8; 4096];
-    let count = rt.stdin().read(&mut buffer)?;
-    for character in &buffer[0..count] {
-        hear(rt, input, line_box, memory, *character)?;
-    }
-    Ok(count > 0)
-}
-
-// Nothing says that an input ends, so the turns of reading are counted.
-fn listen(
-    rt: &HostRuntime,
-    input: &mut Input,
-    line_box: &mut LineBox,
-    memory: &mut WorkingMemory<'_>,
-) -> anyhow::Result<()> {
-    for _ in 0..u64::MAX {
-        if !hear_turn(rt, input, line_box, memory)? {
-            return match input.finish() {
-                Ok(()) => Ok(()),
-                Err(fault) => Err(refused_text(rt, fault)),
-            };
-        }
-    }
-    Err(anyhow!("the input goes on after 18446744073709551615 turns of reading"))
+#[derive(Debug, Drop, Error)]
+enum Failure {
+    // Told whole: an `anyhow::Error` would keep no more than 120 octets of it.
+    #[error("unknown argument '{0}'; see --help")]
+    UnknownArgument(String),
+    #[error(transparent)]
+    Io(#[from] io::Error),
+    #[error(transparent)]
+    Polling(#[from] anyhow::Error),
 }
 
 // What the arguments ask for.
-#[derive(Drop)]
-enum Choice {
-    // hexadecimal text, or octets as they are
-    Poll(Input),
-    Help,
-    // an argument that is none
-    Unknown(String),
+fn word_asked(rt: &HostRuntime) -> Result<Option<Word>, Failure> {
+    let mut asked = None;
+    for argument in env::args(rt)?.skip(1) {
+        let word = Word::read(argument.as_bytes()).ok_or(Failure::UnknownArgument(argument))?;
+        asked = asked.max(Some(word));
+    }
+    Ok(asked)
 }
 
-fn chosen_input(rt: &HostRuntime) -> anyhow::Result<Choice> {
-    let mut hex = false;
-    let mut help = false;
-    for word in env::args(rt)?.skip(1) {
-        match Word::read(word.as_bytes()) {
-            Some(Word::Hex) => hex = true,
-            Some(Word::Help) => help = true,
-            None => return Ok(Choice::Unknown(word)),
-        }
-    }
-    if help {
-        return Ok(Choice::Help);
-    }
-    Ok(Choice::Poll(Input::new(hex)))
-}
-
-fn poll(rt: &HostRuntime, mut input: Input) -> anyhow::Result<()> {
+fn poll(rt: &HostRuntime, input: Input) -> anyhow::Result<()> {
     let mut cells = [0; 56];
     let mut memory = WorkingMemory { cells: &mut cells };
-    match LineBox::new(&mut memory) {
-        Ok(mut line_box) => listen(rt, &mut input, &mut line_box, &mut memory),
-        Err(refusal) => Err(refused_call(rt, refusal)),
-    }
+    let line_box = LineBox::new(&mut memory)?;
+    // Kept: `Session::new` does not make the box itself, since the checker refuses a `Result` of a session: "a type argument holds a `&mut` and a struct that has a ghost field".
+    Session::new(rt, input, line_box, memory).listen()
 }
 
-fn run(rt: &HostRuntime) -> anyhow::Result<ExitCode> {
-    match chosen_input(rt)? {
-        Choice::Poll(input) => poll(rt, input)?,
-        Choice::Help => rt.print(HELP)?,
-        Choice::Unknown(word) => {
-            // An error would keep no more than 120 octets of it.
-            eprintln!(rt; "linebox: unknown argument '{word}'; see --help")?;
-            return Ok(ExitCode::FAILURE);
-        }
+fn run(rt: &HostRuntime) -> Result<(), Failure> {
+    match word_asked(rt)? {
+        Some(Word::Help) => rt.print(HELP)?,
+        Some(Word::Hex) => poll(rt, Input::hexadecimal())?,
+        None => poll(rt, Input::Octets)?,
     }
-    Ok(ExitCode::SUCCESS)
+    Ok(())
 }
 
 fn main(rt: HostRuntime) -> ExitCode {
     match run(&rt) {
-        Ok(code) => code,
-        Err(error) => {
-            let _ = eprintln!(rt; "linebox: {error}");
+        Ok(()) => ExitCode::SUCCESS,
+        Err(failure) => {
+            let _ = eprintln!(rt; "linebox: {failure}");
             ExitCode::FAILURE
         }
     }

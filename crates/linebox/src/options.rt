@@ -2,7 +2,8 @@
 ghost use Rattle.std.specs.Prelude.{◌≡◌};
 ghost use Rattle.linebox.specs.Words.{word_meant};
 
-#[derive(Clone, Copy, Debug, PartialEq, Eq)]
+// Of several words the greatest counts.
+#[derive(Clone, Copy, Debug, PartialEq, Eq, PartialOrd, Ord)]
 pub(crate) enum Word {
     // the input is hexadecimal text
     Hex,
@@ -12,6 +13,7 @@ pub(crate) enum Word {
 
 impl Word {
     // What a word asks for, if it is one of the program's.
+    // Kept: a `TryFrom` would need an error type, and the word itself is what is told.
     pub(crate) fn read(word: &[u8]) -> Option<Word>
         ensures { result ≡ word_meant word.now }
     {

@@ -27,20 +27,17 @@ fn half_hour() -> HalfHour {
     }
 }
 
-// The number of a refusal; 0 where the call is accepted.
-fn told(res: Result<(), Refusal>) -> u8 {
-    match res {
-        Ok(()) => 0,
-        Err(refusal) => refusal.number(),
-    }
+// The number of the refusal, if the call is refused.
+fn refusal_of(outcome: Result<(), Refusal>) -> Option<u8> {
+    outcome.err().map(|refusal| refusal.number())
 }
 
 // Enrols stations on a new line, over two pages and books of six events and four half hours.
-fn enrolled(numbers: &[StationNumber], event_share: usize, half_hour_share: usize) -> u8 {
+fn enrolled(numbers: &[StationNumber], event_share: usize, half_hour_share: usize) -> Option<u8> {
     let mut cells = [0u16; 56];
     let mut memory = WorkingMemory { cells: &mut cells };
     let mut line = Line::new();
-    told(line.enroll(
+    refusal_of(line.enroll(
         numbers,
         &mut memory,
         &[event(); 6],
@@ -66,15 +63,15 @@ fn words_that_are_none_are_refused(rt: HostRuntime) {
 #[test]
 fn enrolling_asks_in_order(rt: HostRuntime) {
     let two = [number(1), number(0x1a0)];
-    assert_eq!(rt; enrolled(&two, 3, 2), 0);
-    assert_eq!(rt; enrolled(&[], 3, 2), 2);
-    assert_eq!(rt; enrolled(&[number(0); 33], 3, 2), 2);
-    assert_eq!(rt; enrolled(&[number(0), number(0)], 9, 9), 3);
-    assert_eq!(rt; enrolled(&[number(4096), number(1)], 3, 2), 3);
-    assert_eq!(rt; enrolled(&[number(4095), number(4095)], 9, 9), 4);
-    assert_eq!(rt; enrolled(&[number(1), number(2), number(3)], 9, 9), 5);
-    assert_eq!(rt; enrolled(&two, 2, 9), 6);
-    assert_eq!(rt; enrolled(&two, 3, 1), 7);
+    assert_eq!(rt; enrolled(&two, 3, 2), None);
+    assert_eq!(rt; enrolled(&[], 3, 2), Some(2));
+    assert_eq!(rt; enrolled(&[number(0); 33], 3, 2), Some(2));
+    assert_eq!(rt; enrolled(&[number(0), number(0)], 9, 9), Some(3));
+    assert_eq!(rt; enrolled(&[number(4096), number(1)], 3, 2), Some(3));
+    assert_eq!(rt; enrolled(&[number(4095), number(4095)], 9, 9), Some(4));
+    assert_eq!(rt; enrolled(&[number(1), number(2), number(3)], 9, 9), Some(5));
+    assert_eq!(rt; enrolled(&two, 2, 9), Some(6));
+    assert_eq!(rt; enrolled(&two, 3, 1), Some(7));
 }
 
 #[test]
@@ -94,16 +91,16 @@ fn a_line_is_enrolled_once(rt: HostRuntime) {
     );
     assert!(rt; early.is_err());
     assert_eq!(rt;
-        told(line.enroll(&[number(0)], &mut memory, &events, 2, &half_hours, 1)),
-        3
+        refusal_of(line.enroll(&[number(0)], &mut memory, &events, 2, &half_hours, 1)),
+        Some(3)
     );
     assert_eq!(rt;
-        told(line.enroll(&[number(7)], &mut memory, &events, 2, &half_hours, 1)),
-        0
+        refusal_of(line.enroll(&[number(7)], &mut memory, &events, 2, &half_hours, 1)),
+        None
     );
     assert_eq!(rt;
-        told(line.enroll(&[number(7)], &mut memory, &events, 2, &half_hours, 1)),
-        1
+        refusal_of(line.enroll(&[number(7)], &mut memory, &events, 2, &half_hours, 1)),
+        Some(1)
     );
 }
 
@@ -116,14 +113,20 @@ fn a_station_is_measured_recorded_and_ticked(rt: HostRuntime) {
     let mut line = Line::new();
     let numbers = [number(1), number(2)];
     assert_eq!(rt;
-        told(line.enroll(&numbers, &mut memory, &events, 3, &half_hours, 2)),
-        0
+        refusal_of(line.enroll(&numbers, &mut memory, &events, 3, &half_hours, 2)),
+        None
     );
-    assert_eq!(rt; told(line.measure(number(2), 10000, 120)), 0);
-    assert_eq!(rt; told(line.measure(number(3), 1, 1)), 14);
-    assert_eq!(rt; told(line.record_event(number(2), 90, &mut events)), 0);
-    assert_eq!(rt; told(line.record_event(number(2), 92, &mut events)), 15);
-    assert_eq!(rt; told(line.tick()), 0);
+    assert_eq!(rt; refusal_of(line.measure(number(2), 10000, 120)), None);
+    assert_eq!(rt; refusal_of(line.measure(number(3), 1, 1)), Some(14));
+    assert_eq!(rt;
+        refusal_of(line.record_event(number(2), 90, &mut events)),
+        None
+    );
+    assert_eq!(rt;
+        refusal_of(line.record_event(number(2), 92, &mut events)),
+        Some(15)
+    );
+    assert_eq!(rt; refusal_of(line.tick()), None);
     assert_eq!(rt;
         line.present_values(number(2)),
         Ok(PresentValues {
@@ -131,21 +134,17 @@ fn a_station_is_measured_recorded_and_ticked(rt: HostRuntime) {
             predicted: 120,
         })
     );
-    assert_eq!(rt; line.held_events(number(2)), Ok(1));
-    assert_eq!(rt; line.held_events(number(1)), Ok(0));
-    assert_eq!(rt; line.held_half_hours(number(2)), Ok(0));
+    assert_eq!(rt; line.held::<Event>(number(2)), Ok(1));
+    assert_eq!(rt; line.held::<Event>(number(1)), Ok(0));
+    assert_eq!(rt; line.held::<HalfHour>(number(2)), Ok(0));
     assert_eq!(rt;
         line.clock(number(1)),
         Ok(DateTime::first().one_second_on())
     );
-    let newest = match line.event_at_rank(number(2), &events, 0) {
-        Ok(Some(event)) => Some((event.kind.number(), event.demand)),
-        _ => None,
-    };
-    assert_eq!(rt; newest, Some((90, 9999)));
-    let half_hour_held = match line.half_hour_at_rank(number(2), &half_hours, 0) {
-        Ok(held) => held.is_some(),
-        Err(_) => true,
-    };
-    assert!(rt; !half_hour_held);
+    let newest = line.record_at_rank(number(2), &events, 0).ok().flatten();
+    assert_eq!(rt;
+        newest.map(|event| (event.kind.number(), event.demand)),
+        Some((90, 9999))
+    );
+    assert!(rt; matches!(line.record_at_rank(number(2), &half_hours, 0), Ok(None)));
 }
