@@ -29,7 +29,7 @@ fn number(digits: [u8; 2]) -> Result<u8, TimeFault>
 
 impl DateTime {
     // YYMMDDhhmmss.
-    // Kept: a `From` would not say in which of its forms the time is written.
+    // Kept: a `From` for `[u8; 12]` would not say that it is the time in decimal digits.
     #[tactic(auto, unfolding(crate::specs::Digits::digits_of))]
     pub fn digits(self) -> [u8; 12]
         ensures { result ≡ digits_of (moment_of self) }
@@ -57,8 +57,8 @@ impl DateTime {
         ]
     }
 
-    // Kept: a `TryFrom<&[u8]>` would be a second name for this, with the same clauses again.
     // Whether all are digits is asked before whether there is such a time.
+    // Kept: a `TryFrom<&[u8]>` in its place is no plainer: `read` goes with `digits`, and both clauses would stay.
     #[tactic(auto, using(crate::proofs::Octets::reading))]
     pub fn read(octets: &[u8]) -> Result<DateTime, TimeFault>
         ensures value { mapped_both moment_of (λ e. e) result ≡ read_of octets.now }

@@ -38,7 +38,7 @@ fn store_cell<M: SettingsMemory>(memory: &mut M, page: u16, cell: u8, value: Opt
 }
 
 // Stores the cells that are set, and no other.
-// Kept: the cell's number is counted by `enumerate` and made an octet, as a memory takes it.
+// Kept: `enumerate` counts in usize, and a second counter in u8 beside it is no plainer than one cast.
 pub(crate) fn store_cells<M: SettingsMemory>(
     cells: &[Option<u16>; CELLS],
     memory: &mut M,

@@ -29,6 +29,7 @@ const TIME_WIDTH: usize = 12;
 
 // What is wrong with twelve octets that are no time. Minutes and seconds other than zero are told before a time that
 // there is not, so that minute 60 is a wrong value.
+// Kept: no `From`, since in a bulk write the same refusal is another fault.
 fn judge_fault(fault: TimeFault, on_the_hour: bool) -> Fault
     ensures { result ≡ hour_fault on_the_hour fault }
 {

@@ -80,7 +80,8 @@ fn obey_reading(command: Command, content: &[u8], holding: &Holding<'_>) -> Resu
 
 // Carries out the command of a request, if it is known, and composes its normal answer, or tells the fault of the
 // abnormal one.
-// Kept: what a station answers by is lent part by part, as to `respond`, since each part is left changed by itself.
+// Kept: lent part by part, as to `respond`: station and memory are changed and the rest is only read, and a struct of all
+// would owe in each clause what stays.
 fn obey<M: SettingsMemory>(
     request: &Request<'_>,
     station: &mut Station,

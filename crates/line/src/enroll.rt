@@ -28,7 +28,8 @@ struct BookSize {
     share: usize,
 }
 
-// Kept: a count is at most 32 by this question, until there is a table that says so by its type.
+// Kept: `count ≤ 32` is said in clauses, since a caller's list may be longer, and the vector that says it by its type is
+// made afterwards.
 fn count_asked(count: usize) -> Result<(), Refusal>
     ensures asked { result ≡ count_asked count }
     ensures few { OnOk result (count ≤ 32) }
@@ -61,7 +62,7 @@ fn numbers_asked(numbers: &[StationNumber]) -> Result<(), Refusal>
     }
 }
 
-// Kept: an `any` would go over the rests of a list, and the library has no iterator of these.
+// Kept: an `any` would cut the rest by an index; this takes the list apart as its definition does.
 fn different_asked(numbers: &[StationNumber]) -> Result<(), Refusal>
     ensures { result ≡ different_asked numbers.now }
 {

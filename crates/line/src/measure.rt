@@ -10,7 +10,8 @@ use frame::station_number::StationNumber;
 
 impl Line {
     // The place of the station that a call names.
-    // Kept: a place is a number below those of this line, since a station lent out by itself could come back with another ring.
+    // Kept: a place is a number less than that of the stations, and no lent station, since one that was lent by itself could
+    // come back with another ring.
     pub(crate) fn station_asked(&self, number: StationNumber) -> Result<usize, Refusal>
         ensures asked { result ≡ station_asked (line_view self.now) number.value }
         ensures within { IfOk result (λ k. k < length self.now.stations.items) }

@@ -27,12 +27,12 @@ const NUMBERS: [StationNumber; 2] = [
     StationNumber { value: 0x1A0 },
 ];
 
-// Kept: the buffer has room for the longest answer, and each reception tells how much of it was written.
 #[derive(Drop)]
 pub(crate) struct LineBox {
     line: Line,
     events: [Event; 100],
     half_hours: [HalfHour; 96],
+    // Kept: no `ArrayVec`, since `Line::receive` is lent a slice that has the room already, and writes at its front.
     answer: [u8; 567],
 }
 

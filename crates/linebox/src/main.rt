@@ -48,6 +48,7 @@ enum Failure {
 }
 
 // What the arguments ask for.
+// Kept: a `try_fold` over the arguments would do in one line what the two lines of the loop say.
 fn word_asked(rt: &HostRuntime) -> Result<Option<Word>, Failure> {
     let mut asked = None;
     for argument in env::args(rt)?.skip(1) {
