@@ -53,6 +53,7 @@ pub struct Answer<'a> {
 
 impl Answer<'_> {
     // Writes the answer to the front of the buffer and tells its length; a buffer that is too short stays as it is.
+    #[inline]
     pub fn write(&self, buffer: &mut [u8]) -> Result<usize, NoRoom>
         ensures length { result ≡ counted (length buffer.old) self.now.content.now }
         ensures wrote { buffer.new ≡ fronted self.now.address self.now.command self.now.content.now buffer.old }

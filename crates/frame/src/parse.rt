@@ -27,8 +27,11 @@ pub fn parse(frame: &[u8]) -> Result<Request<'_>, Fault>
     else {
         return Err(Fault::TooShort);
     };
-    let summed = &frame[..frame.len() - 2];
-    if digits::octet(*high, *low) != Some(checksum(summed)) {
+    // Nothing is summed where the last two octets are no digits, however long the frame is.
+    let Some(told) = digits::octet(*high, *low) else {
+        return Err(Fault::WrongChecksum);
+    };
+    if told != checksum(&frame[..frame.len() - 2]) {
         return Err(Fault::WrongChecksum);
     }
     let address = [*letter, *hundreds, *tens, *ones];

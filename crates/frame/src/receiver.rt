@@ -1,5 +1,5 @@
 // The receiver of frames: octets between ENQ and CR are collected, and handed out as one frame.
-ghost use Rattle.std.specs.Prelude.{◌≡◌};
+ghost use Rattle.std.specs.Prelude.{◌≡◌, take};
 ghost use Rattle.std.specs.Borrow.{sem};
 ghost use Rattle.frame.specs.Reception.{idle, link_of, told_by, step};
 ghost use Rattle.frame.specs.Handing.{RestsAt};
@@ -43,7 +43,7 @@ impl Receiver {
 
     // Takes one signal, and hands out the frame that it ends, if any, or tells the fault by which a frame is dropped.
     pub fn receive(&mut self, signal: Signal) -> Result<Option<&[u8]>, Fault>
-        ensures* link { sem 𝓛 (RestsAt self.entry (step (link_of self.old) signal).next) }
+        ensures* link { sem 𝓛 (RestsAt self.entry (step (link_of self.old) signal)) }
         ensures told { told_by result ≡ (step (link_of self.old) signal).told }
     {
         match (self.state, signal) {
@@ -70,5 +70,13 @@ impl Receiver {
                 Err(Fault::DamagedOctet)
             }
         }
+    }
+
+    // So many octets of the frame that was ended last, all where it has fewer, until the next begins.
+    pub fn frame(&self, length: usize) -> &[u8]
+        ensures { result.now ≡ take length self.now.octets.items }
+    {
+        let octets = self.octets.as_slice();
+        octets.get(..length).unwrap_or(octets)
     }
 }
