@@ -25,7 +25,7 @@ digit_in (c ∷ cs) zero e h = (and_parts (is_digit c) (all_digits cs) e).0
 digit_in (c ∷ cs) (suc k) e h = digit_in cs k (and_parts (is_digit c) (all_digits cs) e).1 (omega arith)
 
 -- the digit at k of twelve
-digit_at : (cs : List ℕ) (k : ℕ) → twelve_digits cs ≡ true → k < 12 → is_digit (get_or cs k 0) ≡ true
+pub digit_at : (cs : List ℕ) (k : ℕ) → twelve_digits cs ≡ true → k < 12 → is_digit (get_or cs k 0) ≡ true
 digit_at cs k e h =
     let both = and_parts (eqb (length cs) 12) (all_digits cs) e in
     digit_in cs k both.1 (omega (arith, eqb-true (length cs) 12 both.0))
@@ -43,11 +43,11 @@ fault_of : (tens ones : ℕ) (e : TimeFault) → number_of tens ones ≡ Err e �
 unfolding number_of
 fault_of tens ones e h = grind (arith, nat_tests)
 
-read_digits : (cs : List ℕ) → twelve_digits cs ≡ true → read_of cs ≡ found (existing (moment_at cs))
+pub read_digits : (cs : List ℕ) → twelve_digits cs ≡ true → read_of cs ≡ found (existing (moment_at cs))
 unfolding read_of
 read_digits cs e = cond-true (twelve_digits cs) (found (existing (moment_at cs))) (Err NotDigits) e
 
-read_other : (cs : List ℕ) → twelve_digits cs ≡ false → read_of cs ≡ Err NotDigits
+pub read_other : (cs : List ℕ) → twelve_digits cs ≡ false → read_of cs ≡ Err NotDigits
 unfolding read_of
 read_other cs e = cond-false (twelve_digits cs) (found (existing (moment_at cs))) (Err NotDigits) e
 

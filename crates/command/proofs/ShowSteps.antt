@@ -33,7 +33,7 @@ room_for ps i d n whole h few inv = omega (arith, widths_at ps i d h)
 pub widths_more : (ps : List Part) (i : ℕ) (d : Part) (old new whole : ℕ) → i < length ps → old + widths (drop i ps) ≡ whole → new ≡ old + width_of (get_or ps i d) → new + widths (drop (i + 1) ps) ≡ whole
 widths_more ps i d old new whole h inv e = omega (arith, widths_at ps i d h)
 
-contract_long : (page : List ℕ) → length page ≡ 28 → length (contract page) ≡ 10
+pub contract_long : (page : List ℕ) → length page ≡ 28 → length (contract page) ≡ 10
 contract_long page h = length-map (between 4 14 page) sent_octet ∙ simp (length-take, length-drop) (omega arith)
 
 number_long : (width n : ℕ) → length (number_shown width n) ≡ digit_count width

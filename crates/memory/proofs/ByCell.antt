@@ -27,13 +27,13 @@ by_cell_pages : (xs : List ℕ) → by_cell xs ≡ pages (length (by_cell xs)) x
 unfolding by_cell pages
 by_cell_pages xs = ap (λ n. grid n (λ p c. word xs (place n p c))) (sym (length_by_cell xs))
 
-by_cell_cell : (xs : List ℕ) (p c : ℕ) → p < length (by_cell xs) → c < 28 → get_or (get_or (by_cell xs) p []) c 0 ≡ min (word xs (place (length (by_cell xs)) p c)) 65535
+pub by_cell_cell : (xs : List ℕ) (p c : ℕ) → p < length (by_cell xs) → c < 28 → get_or (get_or (by_cell xs) p []) c 0 ≡ min (word xs (place (length (by_cell xs)) p c)) 65535
 unfolding pages
 by_cell_cell xs p c h k =
     let n = length (by_cell xs) in
     ap (λ ps. get_or (get_or ps p []) c 0) (by_cell_pages xs) ∙ grid_cell n (λ q d. word xs (place n q d)) p c h k
 
-put_word : (xs : List ℕ) (i j a b v : ℕ) → i ≡ j → a ≡ v / 256 → b ≡ v % 256 → set (set xs i a) (i + 1) b ≡ with_word xs j v
+pub put_word : (xs : List ℕ) (i j a b v : ℕ) → i ≡ j → a ≡ v / 256 → b ≡ v % 256 → set (set xs i a) (i + 1) b ≡ with_word xs j v
 put_word xs i j a b v e f g = cc
 
 length-with_word : (xs : List ℕ) (i v : ℕ) → length (with_word xs i v) ≡ length xs
@@ -70,7 +70,7 @@ pages_store xs n p c v h k fit l =
     (λ d m ne. word_other xs (c * n + p) (d * n + p) v (apart_cell n p c d h ne))
     (λ q d m o ne. word_other xs (c * n + p) (d * n + q) v (apart_page n p c q d h m ne))
 
-by_cell_store : (xs : List ℕ) (p c v : ℕ) → p < length (by_cell xs) → c < 28 → v ≤ 65535
+pub by_cell_store : (xs : List ℕ) (p c v : ℕ) → p < length (by_cell xs) → c < 28 → v ≤ 65535
     → by_cell (with_word xs (place (length (by_cell xs)) p c) v) ≡ set (by_cell xs) p (set (get_or (by_cell xs) p []) c v)
 by_cell_store xs p c v h k fit =
     let n = length (by_cell xs) in

@@ -16,11 +16,11 @@ length_by_page xs = length_grid _ _
 pub within : (xs : List ℕ) (p c : ℕ) → p < length (by_page xs) → c < 28 → 28 * p + c < length xs
 within xs p c h k = let e = length_by_page xs in omega arith
 
-by_page_cell : (xs : List ℕ) (p c : ℕ) → p < length (by_page xs) → c < 28 → get_or (get_or (by_page xs) p []) c 0 ≡ min (get_or xs (28 * p + c) 0) 65535
+pub by_page_cell : (xs : List ℕ) (p c : ℕ) → p < length (by_page xs) → c < 28 → get_or (get_or (by_page xs) p []) c 0 ≡ min (get_or xs (28 * p + c) 0) 65535
 unfolding by_page
 by_page_cell xs p c h k = grid_cell _ (λ q d. get_or xs (28 * q + d) 0) p c (rw length_grid at h) k
 
-by_page_store : (xs : List ℕ) (p c v : ℕ) → p < length (by_page xs) → c < 28 → v ≤ 65535 → by_page (set xs (28 * p + c) v) ≡ set (by_page xs) p (set (get_or (by_page xs) p []) c v)
+pub by_page_store : (xs : List ℕ) (p c v : ℕ) → p < length (by_page xs) → c < 28 → v ≤ 65535 → by_page (set xs (28 * p + c) v) ≡ set (by_page xs) p (set (get_or (by_page xs) p []) c v)
 unfolding by_page
 by_page_store xs p c v h k fit =
     let i : 28 * p + c < length xs = within xs p c h k in

@@ -21,7 +21,7 @@ stored_past ps p c v h = simp (le-ltb p (length ps) h)
 abbrev pub mixed : List ℕ → List ℕ → ℕ → List ℕ
 mixed xs old i = take i xs ++ drop i old
 
-mixed_more : (xs old : List ℕ) (i : ℕ) → i < length xs → i < length old → set (mixed xs old i) i (get_or xs i 0) ≡ mixed xs old (i + 1)
+pub mixed_more : (xs old : List ℕ) (i : ℕ) → i < length xs → i < length old → set (mixed xs old i) i (get_or xs i 0) ≡ mixed xs old (i + 1)
 mixed_more xs old i h k =
     ap (λ r. set (take i xs ++ r) i (get_or xs i 0)) (drop_more old i 0 k)
     ∙ set_at (take i xs) (get_or old i 0) (drop (i + 1) old) (get_or xs i 0) i (length-take-le i xs (omega arith))
@@ -58,7 +58,7 @@ answered_ok {X = X} ps p c x y e = elim (cases_lt p (length ps)) [
   | inr h ↦ let r : ◌≡◌ {A = Result X MemoryRefusal} (Ok y) (Err NoPage) = e ∙ simp (le-ltb p (length ps) h) in absurd (cc)
 ]
 
-copy_more : (xs ys : List ℕ) (i v : ℕ) → i < length xs → i < length ys → v ≡ get_or ys i 0 → take i xs ≡ take i ys → take (i + 1) (set xs i v) ≡ take (i + 1) ys
+pub copy_more : (xs ys : List ℕ) (i v : ℕ) → i < length xs → i < length ys → v ≡ get_or ys i 0 → take i xs ≡ take i ys → take (i + 1) (set xs i v) ≡ take (i + 1) ys
 copy_more xs ys i v h k e same =
     take_more_set xs i v h ∙ ap (λ r. r ++ v ∷ []) same ∙ ap (λ x. take i ys ++ x ∷ []) e ∙ sym (take_more ys i 0 k)
 
