@@ -53,6 +53,7 @@ pub struct Answer<'a> {
 
 impl Answer<'_> {
     // Writes the answer to the front of the buffer and tells its length; a buffer that is too short stays as it is.
+    // Inlined, since as a call of its own it was a quarter slower.
     #[inline]
     pub fn write(&self, buffer: &mut [u8]) -> Result<usize, NoRoom>
         ensures length { result ≡ counted (length buffer.old) self.now.content.now }

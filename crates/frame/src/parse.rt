@@ -28,9 +28,7 @@ pub fn parse(frame: &[u8]) -> Result<Request<'_>, Fault>
         return Err(Fault::TooShort);
     };
     // Nothing is summed where the last two octets are no digits, however long the frame is.
-    let Some(told) = digits::octet(*high, *low) else {
-        return Err(Fault::WrongChecksum);
-    };
+    let told = digits::octet(*high, *low).ok_or(Fault::WrongChecksum)?;
     if told != checksum(&frame[..frame.len() - 2]) {
         return Err(Fault::WrongChecksum);
     }

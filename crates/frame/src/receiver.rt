@@ -72,7 +72,7 @@ impl Receiver {
         }
     }
 
-    // So many octets of the frame that was ended last, all where it has fewer, until the next begins.
+    // The first of the octets held, at most so many. When the loan of an ended frame is over, these are still its octets.
     pub fn frame(&self, length: usize) -> &[u8]
         ensures { result.now ≡ take length self.now.octets.items }
     {
